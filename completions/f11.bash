@@ -11,7 +11,7 @@ _f11() {
     --out) ;;
     *)
         if [[ $cur == -* ]]; then
-            mapfile -t COMPREPLY < <(compgen -W '--limit --stamp --out --header -h --help' -- "$cur")
+            mapfile -t COMPREPLY < <(compgen -W '--limit --stamp --out --header -h --help -V --version' -- "$cur")
             return
         fi
         ;;

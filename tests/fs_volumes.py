@@ -612,6 +612,8 @@ NAMED: dict[str, Callable[[], bytes]] = {
     "sized-vhd": lambda: sized(80) + tail(BLOCK, b"conectix"),
     "sized-odd": lambda: sized(80) + tail(7),
     "sized-short": lambda: sized(80)[: BLOCK * 70],
+    # NOTES.TXT is in block 47.
+    "sized-lacking": lambda: sized(80)[: BLOCK * 47],
     "sized-odd-count": lambda: sized(80, count=2) + tail(7),
     "sized-short-count": lambda: sized(80, count=2)[: BLOCK * 70],
     "sized-low": lambda: sized(80, said=47) + tail(BLOCK, b"simh"),

@@ -186,8 +186,8 @@ class Changes(Disk):
 
     def test_several_names(self) -> None:
         os.link(self.image, self.folder / "other")
-        refuses(self, "it has several names (hard links); --break-links changes this one alone")
-        refuses(self, "it has several names (hard links); --break-links changes this one alone", "--backup")
+        refuses(self, "it has several names (hard links); --break-links changes only this one")
+        refuses(self, "it has several names (hard links); --break-links changes only this one", "--backup")
         changes(self, "--break-links")
         self.assertEqual((self.folder / "other").read_bytes(), self.before, "the other name")
 
@@ -243,7 +243,7 @@ class Changes(Disk):
                 status, _, err = self.f11fs("--stamp", STAMP, "disk", "mkdir", f"NEW{number}")
                 if status == 0:
                     return
-                assert err in (b"f11fs: disk: another program has locked it\n", b"f11fs: disk: it was changed or replaced meanwhile\n"), err
+                assert err in (b"f11fs: disk: another program has locked it\n", b"f11fs: disk: another program changed or replaced it meanwhile\n"), err
             raise AssertionError("a writer never got the image")
         with concurrent.futures.ThreadPoolExecutor(12) as pool:
             list(pool.map(write, range(12)))
@@ -269,9 +269,9 @@ class Changes(Disk):
         if os.geteuid() != 0:
             return
         for mode, owner, folder_mode, folder_owner, why in (
-            (0o444, NOBODY, 0o755, NOBODY, "no right to write to it"),
-            (0o644, 0, 0o777, 0, "no right to write to it"),
-            (0o600, 0, 0o777, 0, "no right to write to it"),
+            (0o444, NOBODY, 0o755, NOBODY, "no permission to write to it"),
+            (0o644, 0, 0o777, 0, "no permission to write to it"),
+            (0o600, 0, 0o777, 0, "no permission to write to it"),
             (0o666, NOBODY, 0o755, 0, "no new file can be made: no permission"),
             (0o666, 0, 0o777, 0, "its owner or mode cannot be kept: no permission"),
         ):

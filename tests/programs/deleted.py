@@ -52,7 +52,7 @@ class Deleted(Disk):
         self.assertEqual({name: (self.folder / name).read_bytes() for name in got}, got)
         # The fourth header has number 13, and stands in block 15.
         self.image.write_bytes(changed(self.image.read_bytes(), 2 + 13, 6, b"\0\0"))
-        self.gets("#7,1", "-", status=5, errors="f11fs: #7,1: it is not whole, cut at header 4; --partial gets what is left\n")
+        self.gets("#7,1", "-", status=5, errors="f11fs: #7,1: it is not whole, cut at header 4; --partial copies what is left\n")
         # Three headers have 306 pointers: those of the single blocks, and 31 of pairs.
         self.assertEqual(self.gets("--partial", "--raw", "#7,1", "-"), long[: 337 * BLOCK], "the blocks up to the header that is missing")
         self.assertEqual(self.gets("--partial", "-b", "#7,1", "-"), long[: 337 * BLOCK], "its end lies past these")

@@ -4,6 +4,7 @@ import fcntl
 import os
 import pathlib
 import re
+import shutil
 import signal
 import subprocess
 import sys
@@ -128,7 +129,7 @@ def ended(run: subprocess.Popen[bytes], given: bytes = b"one\n") -> tuple[int, b
 
 def busy(process: int, name: str = r".+", path: str = "disk") -> re.Pattern[bytes]:
     """The line of an image that a process has open."""
-    return re.compile(rf"f11fs: {path}: process {process} \({name}\) has it open; detach it there, or --force goes on\n".encode())
+    return re.compile(rf"f11fs: {path}: process {process} \({name}\) has it open; detach it there, or use --force\n".encode())
 
 
 def open_elsewhere(room: Disk, how: str) -> None:
@@ -144,6 +145,51 @@ def open_elsewhere(room: Disk, how: str) -> None:
         assert room.is_untouched(), "the image was touched"
         room.assertEqual(room.f11fs("--force", *MKDIR), (0, b"", b""), "--force")
     room.assertEqual(room.f11fs("--stamp", STAMP, "disk", "mkdir", "MORE"), (0, b"", b""), "a change of an image that was open")
+
+# A mapping of the image, without its descriptor.
+MAPPED = """import ctypes, os
+call = ctypes.CDLL(None).mmap
+call.restype, call.argtypes = ctypes.c_void_p, [ctypes.c_void_p, ctypes.c_size_t, ctypes.c_int, ctypes.c_int, ctypes.c_int, ctypes.c_long]
+held = os.open('disk', os.O_RDWR)
+call(None, 4096, 1, 1, held, 0)
+os.close(held)
+"""
+
+# A thread that has a table of descriptors of its own, with the image in it.
+THREADED = """import ctypes, os, threading
+opened = threading.Event()
+def hold():
+    ctypes.CDLL(None).unshare(0x400)
+    held = os.open('disk', os.O_RDWR)
+    opened.set()
+    threading.Event().wait()
+threading.Thread(target=hold, daemon=True).start()
+opened.wait()
+"""
+
+
+def held_by(room: Disk, words: str) -> None:
+    """A change of an image that a Python program has open without a descriptor of its own."""
+    with subprocess.Popen([sys.executable, "-c", f"{words}print('open', flush=True)\ninput()\nos._exit(0)"], cwd=room.folder, stdin=subprocess.PIPE,
+            stdout=subprocess.PIPE) as held:
+        held.stdout.readline()
+        status, out, err = room.f11fs(*MKDIR)
+        held.communicate(b"\n")
+    room.assertEqual((status, out), (3, b""), "a change of an image that is open")
+    room.fits(err, busy(held.pid), "the line")
+    assert room.is_untouched(), "the image was touched"
+    room.assertEqual(room.f11fs(*MKDIR), (0, b"", b""), "a change of an image that was open")
+
+
+# A monotonic clock on which three seconds pass between two looks.
+FAST_CLOCK = """#include <time.h>
+int clock_gettime(clockid_t clock, struct timespec *time) {
+    static long looks;
+    long status = syscall(SYS_clock_gettime, clock, time);
+    if (clock == CLOCK_MONOTONIC) time->tv_sec += 3 * looks++;
+    return status;
+}
+"""
 
 NO_SYNC = """int fsync(int file) {
     struct stat found;
@@ -209,6 +255,41 @@ class Host(Disk):
         self.assertEqual(status, 3, "a change of an image that is open")
         self.fits(err, busy(held.pid, r"a\\x1b\[7mb"), "the line")
 
+    def test_image_that_another_process_maps(self) -> None:
+        held_by(self, MAPPED)
+
+    def test_image_that_a_thread_has_open(self) -> None:
+        held_by(self, THREADED)
+
+    def test_image_under_a_loop_device(self) -> None:
+        made = subprocess.run(["losetup", "-f", "--show", self.image], capture_output=True, text=True) if shutil.which("losetup") else None
+        if not made or made.returncode:
+            self.skipTest("no loop device can be made")
+        try:
+            status, out, err = self.f11fs(*MKDIR)
+        finally:
+            subprocess.run(["losetup", "-d", made.stdout.strip()], check=True)
+        line = f"f11fs: disk: device {made.stdout.strip().removeprefix('/dev/')} has it open; detach it there, or use --force\n"
+        self.assertEqual((status, out, err), (3, b"", line.encode()), "a change of an image under a loop device")
+        assert self.is_untouched(), "the image was touched"
+
+    def test_no_link_of_another_process_is_followed(self) -> None:
+        if not shutil.which("strace"):
+            self.skipTest("strace is not installed")
+        with open(self.folder / "other", "w+b") as other:
+            log = self.folder / "calls"
+            ran = subprocess.run(["strace", "-f", "-o", log, self.program, *MKDIR], cwd=self.folder, stdin=subprocess.DEVNULL, capture_output=True, timeout=120)
+            if not log.exists() or b"ptrace" in ran.stderr:
+                self.skipTest("strace may not trace")
+            calls = [line for line in log.read_text().splitlines() if f'"/proc/{os.getpid()}/fd/{other.fileno()}"' in line]
+        self.assertEqual(ran.returncode, 0, "a change")
+        assert calls and all("readlink" in call for call in calls), f"calls on a link: {calls}"
+
+    def test_search_that_takes_too_long(self) -> None:
+        status, out, err = self.f11fs(*MKDIR, env=preloaded(FAST_CLOCK))
+        self.assertEqual((status, out), (0, b""), "a change")
+        self.fits(err, re.compile(rb"f11fs: disk: [1-9][0-9]* processes could not be looked at in time; one of them may have it open\n"), "the line")
+
     def test_owner_is_given_by_descriptor(self) -> None:
         if os.geteuid() != 0:
             return
@@ -235,7 +316,7 @@ class Host(Disk):
             calls = preloaded(f"int link(const char *from, const char *to) {{ errno = {error}; return -1; }}\n")
             self.assertEqual(self.f11fs("-o", f"new{number}", *MKDIR, env=calls), (0, b"", b""), "a change elsewhere")
             assert "[NEW]" in self.volume(f"new{number}").directories, "the change is not there"
-            self.assertEqual(self.f11fs("-o", f"new{number}", *MKDIR, env=calls), (3, b"", f"f11fs: new{number}: it is there\n".encode()),
+            self.assertEqual(self.f11fs("-o", f"new{number}", *MKDIR, env=calls), (3, b"", f"f11fs: new{number}: it already exists\n".encode()),
                     "a file that is there")
         self.assertEqual(self.names(), ["disk", "new0", "new1"], "files of the host")
         self.image.chmod(0o640)
@@ -285,7 +366,7 @@ class Host(Disk):
         hidden.write_bytes(b"a part")
         with open(hidden, "rb") as held:
             fcntl.flock(held, fcntl.LOCK_EX)
-            self.assertEqual(self.f11fs("-o", "new", *MKDIR), (3, b"", b"f11fs: new: no new file can be made: another program writes it\n"),
+            self.assertEqual(self.f11fs("-o", "new", *MKDIR), (3, b"", b"f11fs: new: no new file can be made: another program is writing to it\n"),
                     "a change elsewhere")
         self.assertEqual((hidden.read_bytes(), self.names()), (b"a part", [".new.f11fs-new", "disk"]), "files of the host")
         self.assertEqual(self.f11fs("-o", "new", *MKDIR), (0, b"", b""), "a change elsewhere")
@@ -293,9 +374,9 @@ class Host(Disk):
 
     def test_links_are_not_written_through(self) -> None:
         (self.folder / "new").symlink_to("none")
-        self.assertEqual(self.f11fs("-o", "new", *MKDIR), (3, b"", b"f11fs: new: it is there\n"), "a link that leads to nothing")
+        self.assertEqual(self.f11fs("-o", "new", *MKDIR), (3, b"", b"f11fs: new: it already exists\n"), "a link that leads to nothing")
         (self.folder / ".other.f11fs-new").symlink_to("disk")
-        self.assertEqual(self.f11fs("-o", "other", *MKDIR), (3, b"", b"f11fs: other: no new file can be made: it is no plain file\n"),
+        self.assertEqual(self.f11fs("-o", "other", *MKDIR), (3, b"", b"f11fs: other: no new file can be made: it is not a regular file\n"),
                 "a link under the hidden name")
         assert self.is_untouched(), "the image was touched"
         self.assertEqual(self.names(), [".other.f11fs-new", "disk", "new"], "files of the host")
@@ -309,7 +390,7 @@ class Host(Disk):
         os.link(self.image, self.folder / "other")
         os.link(self.image, self.folder / ".disk.f11fs-old")
         status, _, err = self.f11fs("--stamp", STAMP, "disk", "mkdir", "MORE")
-        self.assertEqual((status, err), (3, b"f11fs: disk: it has several names (hard links); --break-links changes this one alone\n"), "another name")
+        self.assertEqual((status, err), (3, b"f11fs: disk: it has several names (hard links); --break-links changes only this one\n"), "another name")
 
     def test_folder_whose_name_is_no_text(self) -> None:
         folder = os.path.join(os.fsencode(self.folder), b"caf\xe9")
@@ -341,7 +422,7 @@ class Host(Disk):
         assert "[NEW]" in self.volume().directories, "the change is not there"
         (self.folder / "ring").symlink_to("gnir")
         (self.folder / "gnir").symlink_to("ring")
-        self.assertEqual(self.f11fs("ring", "mkdir", "NEW"), (3, b"", b"f11fs: ring: reading failed: its symbolic links have no end\n"), "a ring")
+        self.assertEqual(self.f11fs("ring", "mkdir", "NEW"), (3, b"", b"f11fs: ring: reading failed: its symbolic links form a loop\n"), "a ring")
 
     def test_block_device(self) -> None:
         if os.geteuid() != 0:
@@ -351,7 +432,7 @@ class Host(Disk):
             return
         device = made.stdout.decode().strip()
         try:
-            self.assertEqual(self.f11fs("--stamp", STAMP, device, "mkdir", "NEW"), (3, b"", f"f11fs: {device}: it is no plain file\n".encode()), "a change")
+            self.assertEqual(self.f11fs("--stamp", STAMP, device, "mkdir", "NEW"), (3, b"", f"f11fs: {device}: it is not a regular file\n".encode()), "a change")
             self.assertEqual(self.f11fs("-n", "--stamp", STAMP, device, "mkdir", "NEW")[::2], (0, b""), "a change that is told")
             self.assertEqual(self.f11fs("-o", "new", "--stamp", STAMP, device, "mkdir", "NEW"), (0, b"", b""), "a change elsewhere")
             assert "[NEW]" in self.volume("new").directories, "the change is not there"
@@ -365,7 +446,7 @@ class Host(Disk):
         os.chown(self.image, NOBODY, NOBODY)
         os.chown(self.folder, NOBODY, NOBODY)
         how = {"user": NOBODY, "group": NOBODY, "extra_groups": []}
-        self.assertEqual(self.f11fs(*MKDIR, **how), (3, b"", b"f11fs: disk: no right to write to it\n"), "a change")
+        self.assertEqual(self.f11fs(*MKDIR, **how), (3, b"", b"f11fs: disk: no permission to write to it\n"), "a change")
         self.assertEqual(self.f11fs("-o", "new", *MKDIR, **how), (0, b"", b""), "a change elsewhere")
         self.image.chmod(0o644)
         self.folder.chmod(0o555)

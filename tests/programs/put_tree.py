@@ -40,10 +40,10 @@ class PutTree(Disk):
         self.write({"tree/a.txt": b"one\n"})
         os.mkfifo(self.folder / "tree/pipe")
         os.symlink("nowhere", self.folder / "tree/none")
-        told = b"f11fs: tree/none: no file and no folder\nf11fs: tree/pipe: no file and no folder\n"
+        told = b"f11fs: tree/none: neither a file nor a folder\nf11fs: tree/pipe: neither a file nor a folder\n"
         self.assertEqual(self.f11fs(*PUT, "tree", "NEW"), (3, b"", told), "put")
         assert self.is_untouched(), "the image was touched"
-        self.assertEqual(self.f11fs(*PUT, "--skip", "tree", "NEW"), (0, b"", told.replace(b": no", b": left out: no")), "put --skip")
+        self.assertEqual(self.f11fs(*PUT, "--skip", "tree", "NEW"), (0, b"", told.replace(b": neither", b": left out: neither")), "put --skip")
         assert "[NEW]A.TXT;1" in self.volume().contents(), "the file is not there"
 
     def test_tree_comes_back(self) -> None:

@@ -115,7 +115,7 @@ class Reads(Disk):
         status, out, err = self.f11fs("large", "rescue", "out", preexec_fn=memory(400 << 20))
         self.assertEqual((status, out), (1, b""), "rescue")
         self.fits(err, re.compile(rb"f11fs: large: TooBig: [^\n]+\n"), "the line")
-        self.assertEqual(self.f11fs("/dev/zero", "rescue", "out", preexec_fn=memory(400 << 20)), (3, b"", b"f11fs: no memory\n"), "want of memory")
+        self.assertEqual(self.f11fs("/dev/zero", "rescue", "out", preexec_fn=memory(400 << 20)), (3, b"", b"f11fs: out of memory\n"), "want of memory")
         self.assertEqual(self.names(), ["disk", "large"], "files of the host")
 
     @on(lambda: with_entries(10500, 30))

@@ -139,7 +139,7 @@ class Repair(Disk):
     @on(crowded)
     def test_equal_names_behind_many_faults(self) -> None:
         status, out, err = self.f11fs("disk", "repair", "double")
-        assert out.startswith(b"double: the image has ") and out.endswith(b" more faults than this run looks at; run it once more\n"), out
+        assert out.startswith(b"double: the image has ") and out.endswith(b" more faults than one run repairs; run repair again\n"), out
         self.assertEqual((status, err, out.count(b"\n"), self.is_untouched()), (7, b"", 1, True), "repair double")
         lines = "used: blocks 60 to 3959 were marked as free\ndouble: directory 20 had two entries with one name and version\n"
         repairs(self, "used", "double", lines=lines)

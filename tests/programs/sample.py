@@ -72,7 +72,7 @@ class Sample(Disk):
             ran = subprocess.run(["sh", "-c", line], cwd=self.folder, env=environment, stdin=subprocess.DEVNULL, capture_output=True, timeout=300)
             # The sample has a lost file, which a check finds; the new volume has more versions than the old one.
             self.assertEqual(ran.returncode, 7 if " check" in line or " cmp " in line else 0, f"{line}: {ran.stderr!r}")
-            remarks = [it for it in ran.stderr.splitlines() if b"brings them back" not in it]
+            remarks = [it for it in ran.stderr.splitlines() if b"restores the records" not in it]
             self.assertEqual(remarks, [], f"the errors of {line}")
         self.assertEqual((self.folder / "gone.txt").read_bytes(), b"I was deleted.\n", "the deleted file")
         self.assertEqual((self.folder / "old.dsk").read_bytes(), SAMPLE.read_bytes(), "the image that no command changes")

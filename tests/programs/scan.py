@@ -63,7 +63,7 @@ class Scan(Disk):
         status, saved, left = told(self)
         # each has a header and 1,000 blocks, and 64 times the image are 128,000
         self.assertEqual((status, len(saved), len(left)), (7, 127, 1500 - 127), "rescue --scan")
-        self.assertEqual(left[0], "left: F133.DAT;1 #133,1 @427: the files before it have 64 times the blocks of the image", "the first that is left")
+        self.assertEqual(left[0], "left: F133.DAT;1 #133,1 @427: the files copied before it have 64 times the blocks of the image", "the first that is left")
 
     @on(lambda: with_headers(1000, (6, 7), 5, 200))
     def test_a_file_larger_than_the_image(self) -> None:

@@ -1,4 +1,4 @@
-//! A program over the libraries, to begin from: it mounts a volume, makes requests on it as a user, and prints the answers.
+//! An example program over the libraries: it mounts a volume, makes requests on it as a user, and prints the answers.
 #![tactic(auto)]
 
 use anyhow::Context;
@@ -9,7 +9,7 @@ use ods_request::{Answer, Request};
 use ods_volume::Volume;
 use std::alloc::Global;
 
-/// Who makes the requests: a user of the system's group.
+/// The user of the requests, in the system's group.
 const USER: Uic = Uic {
     group: 1,
     member: 1,
@@ -30,8 +30,8 @@ fn main(rt: HostRuntime) -> anyhow::Result<()> {
     Ok(())
 }
 
-/// A volume whose list has room for 16 requests. Its image may have any bytes, as those of a file; here it is the sample of 40
-/// blocks. The mount checks it whole, or hands it back with what is wrong with it.
+/// Returns a volume whose list has room for 16 requests. Its image may be any bytes, such as those of a file; here it is the sample of 40 blocks. The
+/// mount checks the whole image, or returns it with its fault.
 fn open(alloc: Global) -> anyhow::Result<Volume> {
     let bytes = sample(alloc, 40)?;
     let image = Image::from_bytes(alloc, &bytes)?;
@@ -59,7 +59,7 @@ fn find(rt: &impl Print, volume: &mut Volume) -> anyhow::Result<()> {
     Ok(())
 }
 
-/// Tries to write over a block of the master directory. A refused request says why, and changes nothing.
+/// Tries to overwrite a block of the master directory. A refused request returns the reason, and changes nothing.
 fn overwrite(rt: &impl Print, volume: &mut Volume) -> anyhow::Result<()> {
     let request = Request::Write {
         file: MASTER,

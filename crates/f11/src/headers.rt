@@ -6,7 +6,7 @@ use std::process::ExitCode;
 use std::rt::Files;
 use std::{fs, io};
 
-/// Prints the line of a header of the image at this path, or of the sample where there is none.
+/// Prints the line of a header of the image at this path, or of the sample volume without a path. Returns the exit status.
 pub fn print_header<R: Files + AllocGlobal + Print>(
     rt: &R,
     image: Option<&str>,

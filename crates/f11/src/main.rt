@@ -1,10 +1,11 @@
-//! `f11`: a processor of RSX-11 volumes, structure level 1. The work is done by `ods_cli`; here are the files,
-//! the streams and the exit status.
+//! `f11`: a processor of RSX-11 volumes, structure level 1. The crate `ods_cli` does the work; this crate has the files, the streams and the exit
+//! status.
 #![tactic(auto)]
 
 mod headers;
 mod out_file;
 mod served;
+mod version;
 
 use fs_host::hold_streams;
 use headers::print_header;
@@ -15,6 +16,7 @@ use std::rt::{Env, Files};
 use std::sync::Wait;
 use std::thread::Threads;
 use std::{env, io};
+use version::VERSION;
 
 fn main(rt: HostRuntime) -> ExitCode {
     // They live until `main` returns, so that no file that is opened is a stream.
@@ -40,11 +42,11 @@ fn run<R: Env + Files + Input + AllocGlobal + Print + Eprint + Threads + Wait + 
     let words = match env::args(rt) {
         Ok(args) => args.skip(1).collect::<Vec<String>>(rt.alloc())?,
         Err(error) if error.kind() == io::ErrorKind::InvalidData => {
-            return Ok(wrong(rt, "error: a word is no UTF-8 text"));
+            return Ok(wrong(rt, "error: an argument is not valid UTF-8"));
         }
         Err(_) => return Err(ServeFault::NoMemory),
     };
-    match parse_words(rt.alloc(), words.as_slice()) {
+    match parse_words(rt.alloc(), words.as_slice(), VERSION) {
         Ok(found) => match run_for(&found) {
             Run::SampleHeader(number) => print_header(rt, None, number),
             Run::ImageHeader(path, number) => print_header(rt, Some(path), number),

@@ -1,9 +1,9 @@
-//! The file that an image is written to.
+//! The file to which an image is written.
 use std::io::Write;
 use std::rt::Files;
 use std::{fs, io};
 
-/// A file that is made, or cut to nothing, at its first byte; before that it is untouched.
+/// A file that is created, or truncated to 0 bytes, at its first written byte. Before that it is unchanged.
 #[derive(Drop)]
 pub struct OutFile<'a, R: Files> {
     files: &'a R,
@@ -12,7 +12,7 @@ pub struct OutFile<'a, R: Files> {
 }
 
 impl<'a, R: Files> OutFile<'a, R> {
-    /// The file at this path, untouched.
+    /// Returns the file at this path, and does not open it.
     pub fn new(files: &'a R, path: &'a str) -> OutFile<'a, R> {
         OutFile {
             files,

@@ -1,4 +1,4 @@
-//! Scripts from files or from standard input, served on an image.
+//! Scripts from files or from standard input, run on an image.
 ghost use Rattle.std.specs.Prelude.{◌+◌, ◌≤◌, ◌^◌, All, IfOk, length, vec_len};
 ghost use Rattle.ods_share.specs.Scripts.{CanBeRun};
 ghost use Rattle.ods_cli.specs.Runs.{IsLimit};
@@ -17,10 +17,10 @@ use std::sync::Wait;
 use std::thread::Threads;
 use std::{fs, io};
 
-/// Why scripts are not served to the end.
+/// The reason why scripts do not run to their end.
 #[derive(Clone, Copy)]
 pub enum ServedFault<'a> {
-    /// The script at this path has too many bytes; with no path, the one on standard input.
+    /// The script at this path has too many bytes. Without a path it is the script on standard input.
     TooLarge(Option<&'a str>),
     Fault(ServeFault),
 }
@@ -52,7 +52,7 @@ impl Gate for Open {
     fn after(&self, _session: u16, _nth: u32) {}
 }
 
-/// Serves one script from standard input.
+/// Runs one script from standard input.
 pub fn serve_bare<'a, R: Files + Input + AllocGlobal + Print + Threads + Wait + Sync>(
     rt: &R,
     words: &Words<'a>,
@@ -67,7 +67,7 @@ pub fn serve_bare<'a, R: Files + Input + AllocGlobal + Print + Threads + Wait + 
     serve_scripts(rt, words, scripts.as_slice())
 }
 
-/// Serves the scripts that the words name.
+/// Runs the scripts of the words.
 pub fn serve_words<'a, R: Files + AllocGlobal + Print + Threads + Wait + Sync>(
     rt: &R,
     words: &Words<'a>,

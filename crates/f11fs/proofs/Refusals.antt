@@ -40,6 +40,7 @@ word_refused word.NoLabel s e = ap is_refused e
 word_refused (word.OtherBlocks count) s e = ap is_refused e
 word_refused word.NoPath s e = ap is_refused e
 word_refused word.Short s e = ap is_refused e
+word_refused word.Lacking s e = ap is_refused e
 word_refused (word.OtherSize size) s e = ap is_refused e
 word_refused (word.Large size room) s e = ap is_refused e
 word_refused (word.LargeStream room) s e = ap is_refused e

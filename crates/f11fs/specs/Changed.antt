@@ -42,7 +42,7 @@ use Rattle.f11fs.specs.TreePut.{IsTreePut}
 use Rattle.f11fs.specs.Unpacked.{AreUntarred}
 use Rattle.f11fs.specs.Readings.{IsLastPart}
 
--- of so many words of a put, how many name host files: all but the last, where there are several
+-- how many of this number of words of a put name host files: all but the last, if there are several
 abbrev pub host_count : ℕ → ℕ
 host_count zero = zero
 host_count (suc zero) = 1
@@ -52,22 +52,24 @@ host_count (suc (suc n)) = suc n
 abbrev pub hosts_among : List (Bor (List ℕ)) → List (Bor (List ℕ))
 hosts_among words = take (host_count (length words)) words
 
--- where they go: with two words or more the last is the path on the volume
+-- the target: with two words or more the last is the path on the volume
 abbrev pub path_among : List (Bor (List ℕ)) → Option (Bor (List ℕ))
 path_among words = if nat_lt 1 (length words) then slice_get words (length words - 1) else None
 
--- A host file with these bytes was put, by what was known before. Its name is what stands behind the last slash of its path. It has the time of the run, or where it is dated that of its host file.
+-- A host file with these bytes was put, with the state before. Its name is the part after the last slash of its path. It has the time of the run, or
+-- if it is dated the time of its host file.
 abbrev pub IsOnePut : Bool → List ℕ → InPut → List ℕ → List ℕ → Filed → InPut → Filed → Type 0
 IsOnePut dated run p host bytes old q new =
     (name : List ℕ) × ((stamp : List ℕ) × IsLastPart host name × IsHostTime (not dated) run stamp × IsHostPut (at_time p stamp) name bytes old q new)
 
--- Host files were put, one after another; the host gave their bytes.
+-- Host files were put, in order; the host gave their bytes.
 abbrev pub ArePutNext : Bool → List ℕ → InPut → List (Bor (List ℕ)) → Filed → InPut → Filed → Type 0
 ArePutNext dated run p [] old q new = (q ≡ p) × (new ≡ old)
 ArePutNext dated run p (host ∷ hosts) old q new =
     (bytes : List ℕ) × ((r : InPut) × ((mid : Filed) × IsOnePut dated run p host.now bytes old r mid × ArePutNext dated run r hosts mid q new))
 
--- Each host file that the words name was put where they say, in the form, at the time and for the owner that they say; `said` is whether they say a time. Nothing else was done.
+-- Each host file that the words name was put at the specified target, in the specified form, at the specified time and for the specified owner;
+-- `said` is whether the words specify a time. Nothing else was done.
 pub record ArePut (said : Bool) (how : PutWords) (words : List (Bor (List ℕ))) (stamp : List ℕ) (old new : Filed) : Type 0 where
   -- what is looked up before the first
   pub begun : InPut
@@ -77,7 +79,7 @@ pub record ArePut (said : Bool) (how : PutWords) (words : List (Bor (List ℕ)))
   pub known : InPut
   pub put : ArePutNext (takes_times how said) stamp begun (hosts_among words) ready known new
 
--- what a put leaves: a tree of a folder, where that is asked for, and else host files one by one
+-- what a put leaves: a tree of a folder, if it is requested, otherwise host files one by one
 abbrev pub PutsBelow : Bool → Bool → PutWords → List (Bor (List ℕ)) → List ℕ → Filed → Filed → Type 0
 PutsBelow true said how words stamp old new = IsTreePut said how words stamp old new
 PutsBelow false said how words stamp old new = ArePut said how words stamp old new
@@ -86,15 +88,15 @@ PutsBelow false said how words stamp old new = ArePut said how words stamp old n
 abbrev pub MovesToLast : List (Bor (List ℕ)) → Filed → Filed → Type 0
 MovesToLast words old new = (from : List (Bor (List ℕ))) × ((to : Bor (List ℕ)) × (words ≡ from ++ to ∷ []) × IsMoved from to.now old new)
 
--- the files of these words are copied to the last one, their blocks placed so
+-- the files of these words are copied to the last one, with their blocks allocated by this placing
 abbrev pub CopiesToLast : Placing → List (Bor (List ℕ)) → List ℕ → Filed → Filed → Type 0
 CopiesToLast placing words stamp old new = (from : List (Bor (List ℕ))) × ((to : Bor (List ℕ)) × (words ≡ from ++ to ∷ []) × IsCopiedTo placing stamp from to.now old new)
 
--- the file of the first word has so many bytes
+-- the file of the first word has this number of bytes
 abbrev pub CutsFirst : List (Bor (List ℕ)) → ℕ → Filed → Filed → Type 0
 CutsFirst words bytes old new = (path : Bor (List ℕ)) × ((others : List (Bor (List ℕ))) × (words ≡ path ∷ others) × IsTruncated path.now bytes old new)
 
--- behind the end of the file that the path names are the bytes of a host file; the host gave them
+-- past the end of the file that the path names are the bytes of a host file; the host gave them
 abbrev pub AppendsTo : List ℕ → Filed → Filed → Type 0
 AppendsTo path old new = (facts : Facts) × ((bytes : List ℕ) × IsOpened old.image old.layout path facts × IsGrown facts bytes old new)
 
@@ -106,11 +108,11 @@ AppendsToFirst words old new = (path : Bor (List ℕ)) × ((host : Bor (List ℕ
 abbrev pub IsLabelled : List ℕ → Filed → Filed → Type 0
 IsLabelled text old new = IsTrue (is_label_text text) × HasGotLabel old (label_of text) new
 
--- the text is no label
+-- the text is not a valid label
 abbrev pub IsNoLabel : List ℕ → Type 0
 IsNoLabel text = ¬ IsTrue (is_label_text text)
 
--- What a change leaves that is made whole, by the words behind its name, and by the time that new files get.
+-- What a change leaves that is made whole, by the words after its name, and by the time of new files.
 abbrev pub IsChanged : Change → List (Bor (List ℕ)) → List ℕ → Filed → Filed → Type 0
 IsChanged (change.Put how) words stamp old new = (said : Bool) × PutsBelow how.below said how words stamp old new
 IsChanged change.Untar words stamp old new = (said : Bool) × AreUntarred said words stamp old new
@@ -127,16 +129,16 @@ IsChanged (change.Chmod protection) words stamp old new = AreGiven None (Some pr
 IsChanged (change.Chown owner) words stamp old new = AreGiven (Some owner) None words old new
 IsChanged (change.Label text) words stamp old new = IsLabelled text.now old new
 
--- files have got this owner and this protection, each where it is given, one after another
+-- files have received this owner and this protection, each if it is given, in order
 abbrev pub HaveGot : Option Uic → Option ℕ → List FileId → Filed → Filed → Type 0
 HaveGot owner protection [] old new = new ≡ old
 HaveGot owner protection (file ∷ files) old new = (mid : Filed) × HasGiven old file owner protection mid × HaveGot owner protection files mid new
 
--- some files have got these, and nothing else was done
+-- some files have received these, and nothing else was done
 abbrev pub SomeGot : Option Uic → Option ℕ → Filed → Filed → Type 0
 SomeGot owner protection old new = (files : List FileId) × HaveGot owner protection files old new
 
--- what some changes leave, refused or not: nothing but what requests of theirs leave, or some of what they give
+-- what some changes leave, refused or not: only what their requests leave, or some of what they give
 abbrev pub KeepsTo : Change → Filed → Filed → Type 0
 KeepsTo (change.Put how) old new = Unit {0}
 KeepsTo change.Untar old new = Unit {0}
@@ -153,25 +155,26 @@ KeepsTo (change.Chmod protection) old new = SomeGot None (Some protection) old n
 KeepsTo (change.Chown owner) old new = SomeGot (Some owner) None old new
 KeepsTo (change.Label text) old new = (new ≡ old) ⊎ IsLabelled text.now old new
 
--- the volume is the same, whoever asks
+-- the volume is the same, whichever user requests
 abbrev pub HasSameVolume : Filed → Filed → Type 0
 HasSameVolume old new = (new.image ≡ old.image) × (new.layout ≡ old.layout)
 
--- what a command leaves of a volume that stands: that volume; or, where it is done and asks for a change, what the change leaves
+-- what a command leaves of a usable volume: that volume; or, if it is done and requests a change, what the change leaves
 abbrev pub IsDoneNow : Action → List (Bor (List ℕ)) → List ℕ → Status → Filed → Filed → Type 0
 IsDoneNow asked words stamp s old new = (new ≡ old) ⊎ ((c : Change) × (asked ≡ action.Change c) × (s ≡ status.Done) × IsChanged c words stamp old new)
 
--- What a command leaves of a volume that stands: the same volume; or, where it is done and asks for a change, what that leaves for this user.
+-- What a command leaves of a usable volume: the same volume; or, if it is done and requests a change, what that leaves for this user.
 abbrev pub IsDoneBy : Action → List (Bor (List ℕ)) → List ℕ → Uic → Status → Filed → Filed → Type 0
 IsDoneBy asked words stamp user s old new =
     HasSameVolume old new
     ⊎ ((c : Change) × (asked ≡ action.Change c) × (s ≡ status.Done) × IsChanged c words stamp (for_another old user) new)
 
--- the words of this line ask for a command on the volume of this image
+-- the words of this line request a command on the volume of this image
 abbrev pub IsCommandOf : Bor (List ℕ) → List ℕ → Words → Type 0
 IsCommandOf image line own = (words : List (List ℕ)) × (words_in line ≡ Some words) × IsLineOf image words (Some own)
 
--- What a line leaves of a volume that stands: the same volume; or what its command leaves, with the stamp and for the user that the line says, or else with these.
+-- What a line leaves of a usable volume: the same volume; or what its command leaves, with the stamp and for the user that the line specifies, or
+-- otherwise with these.
 abbrev pub IsLineDone : Bor (List ℕ) → List ℕ → Uic → List ℕ → Status → Filed → Filed → Type 0
 IsLineDone image stamp user line s old new =
     HasSameVolume old new
@@ -198,11 +201,11 @@ first_fault [] = status.Done
 first_fault (status.Done ∷ rest) = first_fault rest
 first_fault (s ∷ rest) = s
 
--- a run goes on behind a line that ends with this status: it is not refused, or the run is to go on then
+-- a run goes on after a line that ends with this status: it is not refused, or the run continues after a refusal
 abbrev pub GoesOn : Bool → Status → Type 0
 GoesOn goes_on s = (goes_on ≡ true) ⊎ (is_refused s ≡ false)
 
--- What these lines leave, one after another, and how each ends. The run goes on behind each.
+-- What these lines leave, in order, and how each ends. The run goes on after each.
 abbrev pub AreLinesDone : Bor (List ℕ) → List ℕ → Uic → Bool → List (List ℕ) → List Status → Filed → Filed → Type 0
 AreLinesDone image stamp user goes_on [] statuses old new = (statuses ≡ []) × (new ≡ old)
 AreLinesDone image stamp user goes_on (line ∷ lines) statuses old new = (s : Status) × (later : List Status) × (mid : Filed) × (statuses ≡ s ∷ later) × GoesOn goes_on s
@@ -212,19 +215,20 @@ AreLinesDone image stamp user goes_on (line ∷ lines) statuses old new = (s : S
 abbrev pub AreAllDone : Bor (List ℕ) → List ℕ → Uic → Bool → List (List ℕ) → Status → Filed → Filed → Type 0
 AreAllDone image stamp user goes_on lines s old new = (statuses : List Status) × AreLinesDone image stamp user goes_on lines statuses old new × (s ≡ first_fault statuses)
 
--- the command asks for a change
+-- the command requests a change
 abbrev pub IsChange : Action → Type 0
 IsChange asked = (c : Change) × (asked ≡ action.Change c)
 
--- the words of this line ask for a change
+-- the words of this line request a change
 abbrev pub AsksChange : Bor (List ℕ) → List ℕ → Type 0
 AsksChange image line = (own : Words) × IsCommandOf image line own × IsChange own.action
 
--- Why a line ends a run: it is refused, with this status. The run is not to go on then, or the line asks for a change, which may be made in part.
+-- Why a line ends a run: it is refused, with this status. The run does not continue after a refusal, or the line requests a change, which may be made
+-- in part.
 abbrev pub EndsRun : Bor (List ℕ) → Bool → List ℕ → Status → Type 0
 EndsRun image goes_on line s = (is_refused s ≡ true) × ((goes_on ≡ false) ⊎ AsksChange image line)
 
--- The lines before one are done, and that one ends the run, which has its status.
+-- The lines before one are done, and that one ends the run with its status.
 abbrev pub AreLinesEnded : Bor (List ℕ) → List ℕ → Uic → Bool → List (List ℕ) → Status → Filed → Type 0
 AreLinesEnded image stamp user goes_on lines s old =
     (front : List (List ℕ)) × (line : List ℕ) × (behind : List (List ℕ)) × (statuses : List Status) × (mid : Filed) × (lines ≡ front ++ line ∷ behind)

@@ -1,4 +1,4 @@
--- What a cp of another image's files leaves.
+-- What a cp of the files of another image leaves.
 use Rattle.std.specs.Prelude.{◌≡◌, ℕ, Bool, true, false, List, [], ◌∷◌, ◌++◌, Option}
 use Rattle.std.specs.Borrow.{Bor}
 use Rattle.std.specs.Option.{option_map}
@@ -8,11 +8,12 @@ use Rattle.ods_upkeep.specs.CopiedTree.{IsTreeCopiedFromSome}
 use Rattle.ods_upkeep.specs.declared.asked.CopyFrom.{CopyFrom}
 use Rattle.f11fs.specs.Forms.{placing_for}
 
--- how files are copied: in one piece or anywhere, where that is said, and under the next version of each name where that is asked for
+-- how files are copied: in one piece or anywhere, if it is specified, and under the next version of each name if it is requested
 abbrev pub copying_said : Option Bool → Bool → CopyFrom
 copying_said contiguous next = record { placing = option_map placing_for contiguous; next = next }
 
--- The files that these words but the last find on another volume are copied to the last one. That the volume is that of the image which the words name is the host's to say.
+-- The files that these words but the last find on another volume are copied to the last one. Only the host knows that the volume is the one of the
+-- named image.
 abbrev pub CopiesOver : Option Bool → Bool → List (Bor (List ℕ)) → List ℕ → Filed → Filed → Type 0
 CopiesOver contiguous next words stamp old new = (from : List (Bor (List ℕ))) × ((to : Bor (List ℕ)) × (words ≡ from ++ to ∷ []) × IsCopiedFromSome (copying_said contiguous next) stamp from to.now old new)
 
@@ -21,7 +22,7 @@ abbrev pub CopiesTreeOver : Option Bool → Bool → List (Bor (List ℕ)) → L
 CopiesTreeOver contiguous next words stamp old new =
     (path : Bor (List ℕ)) × ((to : Bor (List ℕ)) × (words ≡ path ∷ to ∷ []) × IsTreeCopiedFromSome (copying_said contiguous next) stamp path.now to.now old new)
 
--- what a cp of another image's files leaves: those of a tree, where that is asked for
+-- what a cp of the files of another image leaves: the files of a tree, if it is requested
 abbrev pub CopiesBelow : Bool → Option Bool → Bool → List (Bor (List ℕ)) → List ℕ → Filed → Filed → Type 0
 CopiesBelow true contiguous next words stamp old new = CopiesTreeOver contiguous next words stamp old new
 CopiesBelow false contiguous next words stamp old new = CopiesOver contiguous next words stamp old new

@@ -7,7 +7,7 @@ use Rattle.fs_words.specs.declared.actions.Action.TheVariants as action
 use Rattle.fs_words.specs.declared.words.Words.{Words}
 use Rattle.f11fs.specs.Changed.{IsCommandOf}
 
--- the command wants a volume that is mounted: it changes it, or counts its free blocks
+-- the command requires a mounted volume: it changes it, or counts its free blocks
 abbrev pub is_for_mounted : Action → Bool
 is_for_mounted (action.Change change) = true
 is_for_mounted action.Df = true
@@ -29,11 +29,12 @@ is_for_mounted (action.Commands file keep_going) = false
 abbrev pub IsForMounted : Action → Type 0
 IsForMounted asked = is_for_mounted asked ≡ true
 
--- the words of this line ask for such a command
+-- the words of this line request such a command
 abbrev pub WantsMounted : Bor (List ℕ) → List ℕ → Type 0
 WantsMounted image line = (own : Words) × IsCommandOf image line own × IsForMounted own.action
 
--- The words of a line, where it says no user, have that of the words of the run; they are obeyed by force, as objects and quietly where either says so, and are told alone where those are.
+-- The words of a line. If they name no user, the user of the run applies. Force, JSON and quiet apply if either requests them; `-n` is taken from the
+-- run.
 pub record IsAsOuter (own outer joined : Words) : Type 0 where
   pub action : joined.action ≡ own.action
   pub paths : joined.paths ≡ own.paths

@@ -1,4 +1,4 @@
--- What `repair` leaves of an image: the kinds that are asked for, one after another.
+-- What `repair` leaves of an image: the requested kinds, in order.
 use Rattle.std.specs.Prelude.{◌≡◌, ◌⊎◌, ◌||◌, ℕ, Bool, true, false, List, [], ◌∷◌, Option, Some, None}
 use Rattle.std.specs.Borrow.{Bor}
 use Rattle.std.specs.List.{All, Contains}
@@ -42,26 +42,26 @@ use Rattle.fs_reads.specs.declared.stop.Stop.TheVariants as stop
 use Rattle.fs_reads.specs.declared.volume.VolumeFault.TheVariants as image_fault
 use Rattle.fs_words.specs.declared.actions.Repairs.{Repairs}
 
--- who asks for repairs: the keeper of the image, [1,1]
+-- the user of repairs: the keeper of the image, [1,1]
 abbrev pub keeper : Uic
 keeper = record { group = 1; member = 1 }
 
--- what `used` leaves: blocks that files hold and that were marked as free are used; or it is refused, and nothing is done
+-- what `used` leaves: blocks that belong to files and were marked as free are used; or it is refused, and nothing is done
 abbrev pub LeavesUsed : Bool → List (List ℕ) → List (List ℕ) → Type 0
 LeavesUsed false I J = J ≡ I
 LeavesUsed true I J = (L : VolumeLayout) × IsLayoutOf I L
     × (((blocks : List ℕ) × AreUsed I L blocks J) ⊎ ((J ≡ I) × ((why : RepairFault) × IsBitmapFault I L why)))
 
--- names of directory d that were one are so no more; or that is refused, and nothing is done
+-- no two names of directory d are the same any more; or that is refused, and nothing is done
 abbrev pub LeavesDirectory : VolumeLayout → ℕ → List (List ℕ) → List (List ℕ) → Type 0
 LeavesDirectory L d I J = HasRenumbered I L d J ⊎ ((J ≡ I) × ((why : RepairFault) × IsNotRenumbered I L d why))
 
--- so it is with each of these, one after another
+-- the same for each of these, in order
 abbrev pub LeavesDirectories : VolumeLayout → List ℕ → List (List ℕ) → List (List ℕ) → Type 0
 LeavesDirectories L [] I J = J ≡ I
 LeavesDirectories L (d ∷ ds) I J = (mid : List (List ℕ)) × LeavesDirectory L d I mid × LeavesDirectories L ds mid J
 
--- the line tells of a pair of files that share blocks, of which this is the later one
+-- the line describes a pair of files that share blocks, of which this is the later one
 abbrev pub TellsLater : FaultLine → ℕ → Type 0
 TellsLater line n = (m : ℕ) × (b : ℕ) × (count : ℕ) × (line ≡ Shared m n b count)
 
@@ -73,17 +73,17 @@ IsToldAsShared lines n = (m : ℕ) × (b : ℕ) × (count : ℕ) × Contains lin
 abbrev pub LeavesFile : VolumeLayout → ℕ → List (List ℕ) → List (List ℕ) → Type 0
 LeavesFile L n I J = ((told : Unshared) × HasOwnRuns I L n told J) ⊎ ((J ≡ I) × ((why : RepairFault) × IsNotUnshared I L n why))
 
--- so it is with each of these, one after another
+-- the same for each of these, in order
 abbrev pub LeavesFiles : VolumeLayout → List ℕ → List (List ℕ) → List (List ℕ) → Type 0
 LeavesFiles L [] I J = J ≡ I
 LeavesFiles L (n ∷ ns) I J = (mid : List (List ℕ)) × LeavesFile L n I mid × LeavesFiles L ns mid J
 
--- what `share` leaves: of files that share blocks with files before them, or have blocks twice, runs have blocks of their own
+-- what `share` leaves: runs of files that share blocks with earlier files, or repeat blocks, have blocks of their own
 abbrev pub LeavesShared : Bool → List (List ℕ) → List (List ℕ) → Type 0
 LeavesShared false I J = J ≡ I
 LeavesShared true I J = (L : VolumeLayout) × (ns : List ℕ) × IsLayoutOf I L × All (λ n. (m : ℕ) × (b : ℕ) × IsTrueOf I L (DoublyUsed m n b)) ns × LeavesFiles L ns I J
 
--- what `double` leaves: in directories that have names which are one, the second gets the next version
+-- what `double` leaves: in directories with two equal names, the second gets the next version
 abbrev pub LeavesDouble : Bool → List (List ℕ) → List (List ℕ) → Type 0
 LeavesDouble false I J = J ≡ I
 LeavesDouble true I J = (L : VolumeLayout) × (ds : List ℕ) × IsLayoutOf I L × All (λ d. IsTrueOf I L (DuplicateName d)) ds × LeavesDirectories L ds I J
@@ -93,23 +93,23 @@ abbrev pub LeavesNames : Bool → Filed → Filed → Type 0
 LeavesNames false old new = new ≡ old
 LeavesNames true old new = (found : List Dangling) × IsCleared old found new
 
--- what is found is this directory
+-- the found entry is this directory
 abbrev pub IsDirectoryFound : Named → FileId → Type 0
 IsDirectoryFound found dir = (facts : Facts) × (found.facts ≡ Some facts) × (facts.kind ≡ kind.Directory) × (facts.file ≡ dir)
 
--- one thing is found, and it is this directory
+-- one entry is found, and it is this directory
 abbrev pub IsOneDirectory : List Named → FileId → Type 0
 IsOneDirectory all dir = (found : Named) × (all ≡ found ∷ []) × IsDirectoryFound found dir
 
--- the path means this one directory
+-- the path selects this one directory
 abbrev pub IsDirectoryOf : Filed → List ℕ → FileId → Type 0
 IsDirectoryOf volume path dir = (says : Said) × Says path says × ((all : List Named) × AreNamedBy volume.image volume.layout [] says (highest alone.Themselves) all × IsOneDirectory all dir)
 
--- the directory is there, or is made as mkdir makes it
+-- the directory exists, or is created like with mkdir
 abbrev pub HasDirectory : List ℕ → Bor (List ℕ) → Filed → Filed → FileId → Type 0
 HasDirectory stamp path old new dir = ((new ≡ old) ⊎ AreMade None 0 stamp (path ∷ []) old new) × IsDirectoryOf new path.now dir
 
--- something stays that was to be repaired, also where files stay lost
+-- something to repair is left, also if files stay lost
 abbrev pub is_left_by : Bool → List FileId → Bool
 is_left_by before [] = before
 is_left_by before (id ∷ ids) = true
@@ -118,7 +118,7 @@ is_left_by before (id ∷ ids) = true
 abbrev pub HasNoLost : Filed → Type 0
 HasNoLost volume = (n : ℕ) → ¬ IsLostFile volume.image volume.layout n
 
--- files that no directory named are entered in the one that is said
+-- files that no directory named are entered in the specified one
 abbrev pub EntersLost : List ℕ → Bor (List ℕ) → Filed → Filed → Type 0
 EntersLost stamp into old new = (mid : Filed) × (dir : FileId) × (found : List LostFile) × HasDirectory stamp into old mid dir × IsFound mid dir found new
 
@@ -127,25 +127,25 @@ abbrev pub LeavesLost : Bool → List ℕ → Bor (List ℕ) → Filed → Filed
 LeavesLost false stamp into old new = new ≡ old
 LeavesLost true stamp into old new = ((new ≡ old) × HasNoLost old) ⊎ EntersLost stamp into old new
 
--- what `free` leaves: blocks that no file held and that were marked as used are free; or it is refused, and nothing is done
+-- what `free` leaves: blocks that no file held but that were marked as used are free; or it is refused, and nothing is done
 abbrev pub LeavesFree : Bool → Filed → Filed → Type 0
 LeavesFree false old new = new ≡ old
 LeavesFree true old new = ((told : List Finding) × IsFreed old told new) ⊎ ((new ≡ old) × ((why : RepairFault) × IsNotFreed old why))
 
--- what the repairs of a sound volume leave, one after another
+-- what the repairs of a sound volume leave, in order
 abbrev pub LeavesSound : Repairs → List ℕ → Bor (List ℕ) → Filed → Filed → Type 0
 LeavesSound kinds stamp into old new = (named : Filed) × (found : Filed) × LeavesNames kinds.names old named × LeavesLost kinds.lost stamp into named found × LeavesFree kinds.free found new
 
--- one of the repairs is asked for that want a sound volume
+-- one of the requested repairs requires a sound volume
 abbrev pub wants_sound : Repairs → Bool
 wants_sound kinds = kinds.names || (kinds.lost || kinds.free)
 
--- the image has no layout for this fault: the image is refused, or there is no memory
+-- the image has no layout for this fault: the image is refused, or out of memory
 abbrev pub IsNotLaidOut : Bor (List ℕ) → MountFault → Stop → Type 0
 IsNotLaidOut path faulty.NoMemory s = s ≡ stop.NoMemory
 IsNotLaidOut path fault s = s ≡ stop.Image path (image_fault.Volume fault None)
 
--- a repair is refused in the middle for this fault: the status says so, or there is no memory
+-- a repair is refused in the middle for this fault: the status says so, or it is out of memory
 abbrev pub IsNotMended : RepairFault → Stop → Type 0
 IsNotMended unmended.NoMemory s = s ≡ stop.NoMemory
 IsNotMended fault s = StopsWith s status.Refused ⊎ (s ≡ stop.NoMemory)
@@ -156,7 +156,7 @@ LeavesMounted kinds stamp into I J =
     ((L : VolumeLayout) × (new : Filed) × IsSoundBy I L × LeavesSound kinds stamp into (record { image = I; layout = L; user = keeper }) new × (J ≡ new.image))
     ⊎ ((J ≡ I) × ((fault : MountFault) × FaultIsTrue I fault))
 
--- those repairs, where one is asked for
+-- those repairs, if one is requested
 abbrev pub LeavesRest : Bool → Repairs → List ℕ → Bor (List ℕ) → List (List ℕ) → List (List ℕ) → Type 0
 LeavesRest false kinds stamp into I J = J ≡ I
 LeavesRest true kinds stamp into I J = LeavesMounted kinds stamp into I J
@@ -166,36 +166,36 @@ abbrev pub IsMended : Repairs → List ℕ → Bor (List ℕ) → List (List ℕ
 IsMended kinds stamp into I J =
     (G : List (List ℕ)) × (H : List (List ℕ)) × (K : List (List ℕ)) × LeavesUsed kinds.used I G × LeavesShared kinds.share G H × LeavesDouble kinds.double H K × LeavesRest (wants_sound kinds) kinds stamp into K J
 
--- nothing is told as left now, and so nothing was before, and this holds
+-- nothing is reported as left now, and so nothing was before, and this holds
 abbrev pub Wholly : Bool → Bool → Type 0 → Type 0
 Wholly before now P = now ≡ false → (before ≡ false) × P
 
--- `used` was made, where it is asked for
+-- `used` was made, if it is requested
 abbrev pub IsWhollyUsed : Bool → List (List ℕ) → List (List ℕ) → Type 0
 IsWhollyUsed false I J = J ≡ I
 IsWhollyUsed true I J = IsAllUsed I J
 
--- so was `share`, of each file that shared blocks with one before it
+-- so was `share`, of each file that shared blocks with an earlier one
 abbrev pub IsWhollyUnshared : Bool → List (List ℕ) → List (List ℕ) → Type 0
 IsWhollyUnshared false I J = J ≡ I
 IsWhollyUnshared true I J = IsAllUnshared I J
 
--- so was `double`, in each directory that had two names which are one
+-- so was `double`, in each directory that had two equal names
 abbrev pub IsWhollyRenumbered : Bool → List (List ℕ) → List (List ℕ) → Type 0
 IsWhollyRenumbered false I J = J ≡ I
 IsWhollyRenumbered true I J = IsAllRenumbered I J
 
--- no file is lost any more, where `lost` is asked for
+-- no file is lost any more, if `lost` is requested
 abbrev pub LosesNone : Bool → Filed → Type 0
 LosesNone false volume = Unit {0}
 LosesNone true volume = HasNoLost volume
 
--- `free` was made, where it is asked for
+-- `free` was made, if it is requested
 abbrev pub IsWhollyFreed : Bool → Filed → Filed → Type 0
 IsWhollyFreed false old new = new ≡ old
 IsWhollyFreed true old new = (told : List Finding) × IsFreed old told new
 
--- the repairs of a sound volume were made, of those that are asked for
+-- the requested repairs of a sound volume were made
 abbrev pub IsSoundWhollyMended : Repairs → List ℕ → Bor (List ℕ) → Filed → Filed → Type 0
 IsSoundWhollyMended kinds stamp into old new =
     (named : Filed) × (found : Filed) × LeavesNames kinds.names old named × LeavesLost kinds.lost stamp into named found × LosesNone kinds.lost found × IsWhollyFreed kinds.free found new
@@ -205,12 +205,12 @@ abbrev pub IsMountedWhollyMended : Repairs → List ℕ → Bor (List ℕ) → L
 IsMountedWhollyMended kinds stamp into I J =
     (L : VolumeLayout) × (new : Filed) × IsSoundBy I L × IsSoundWhollyMended kinds stamp into (record { image = I; layout = L; user = keeper }) new × (J ≡ new.image)
 
--- so it is, where one of them is asked for
+-- the same, if one of them is requested
 abbrev pub IsRestWhollyMended : Bool → Repairs → List ℕ → Bor (List ℕ) → List (List ℕ) → List (List ℕ) → Type 0
 IsRestWhollyMended false kinds stamp into I J = J ≡ I
 IsRestWhollyMended true kinds stamp into I J = IsMountedWhollyMended kinds stamp into I J
 
--- What `repair` leaves where it tells of nothing that is left: each kind that is asked for was made, and nothing of it is there any more.
+-- What `repair` leaves if it reports nothing as left: each requested kind was made, and nothing of it is there any more.
 abbrev pub IsWhollyMended : Repairs → List ℕ → Bor (List ℕ) → List (List ℕ) → List (List ℕ) → Type 0
 IsWhollyMended kinds stamp into I J =
     (G : List (List ℕ)) × (H : List (List ℕ)) × (K : List (List ℕ)) × IsWhollyUsed kinds.used I G × IsWhollyUnshared kinds.share G H × IsWhollyRenumbered kinds.double H K × IsRestWhollyMended (wants_sound kinds) kinds stamp into K J

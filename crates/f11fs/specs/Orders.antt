@@ -1,4 +1,4 @@
--- In which order the words of a run have the sectors of an image.
+-- The order of the sectors of an image, as the words of a run specify it.
 use Rattle.std.specs.Prelude.{◌≡◌, ◌≢◌, ℕ, List, Option, Some, None}
 use Rattle.std.specs.Borrow.{Bor}
 use Rattle.fs_host.specs.declared.layers.Layers.{Layers}
@@ -11,19 +11,19 @@ use Rattle.fs_reads.specs.declared.stop.WordFault.TheVariants as word
 use Rattle.ods_order.specs.Order.{block_count}
 use Rattle.ods_order.specs.declared.order.Order.{Order}
 
--- how an image is read: in the order that is said, and else in the one that is found
+-- how an image is read: in the specified order, otherwise in the detected one
 abbrev pub layers_said : Option Layering → Layers
 layers_said None = layers.Found
 layers_said (Some layering.Plain) = layers.Plain
 layers_said (Some (layering.Physical order)) = layers.Physical order
 
--- the order of a floppy, where one is said: a new image has it only then
+-- the order of a floppy, if one is specified: only then a new image has it
 abbrev pub order_said : Option Layering → Option Order
 order_said None = None
 order_said (Some layering.Plain) = None
 order_said (Some (layering.Physical order)) = Some order
 
--- a floppy of this order has another number of blocks, and the end of the command says its own
+-- a floppy of this order has another number of blocks, and the end of the command states its own
 abbrev pub HasOtherBlocks : Bor (List ℕ) → Option Order → ℕ → Stop → Type 0
 HasOtherBlocks path None blocks s = ⊥
 HasOtherBlocks path (Some order) blocks s = (blocks ≢ block_count order) × (s ≡ stop.Word path (word.OtherBlocks (block_count order)))

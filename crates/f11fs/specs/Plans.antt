@@ -1,4 +1,4 @@
--- What is told of a change that is not made: the lines of a plan.
+-- The text about a change that is not made: the lines of a plan.
 use Rattle.std.specs.Prelude.{◌≡◌, ◌≢◌, ◌⊎◌, ℕ, ◌<◌, ◌≤◌, List, ◌∷◌, ◌++◌, [], Bool, true, false, Option, Some, None, MatchBool, codes, is_some, if◌then◌else◌, string_bytes}
 use Rattle.std.specs.Fmt.{decimal}
 use Rattle.std.specs.List.{Contains, range_with_len}
@@ -16,7 +16,7 @@ use Rattle.fs_reads.specs.declared.comparing.Known.{Known}
 use Rattle.f11fs.specs.declared.telling.Differs.{Differs}
 use Rattle.f11fs.specs.declared.telling.Plan.{Plan}
 
--- A line says what is done, and to what; as JSON it is an object, what is done being the name.
+-- A line states the action and its object; as JSON it is an object whose name is the action.
 abbrev pub plan_line : Bool → List ℕ → List ℕ → List ℕ
 plan_line false done what = done ++ (codes " " ++ (what ++ 10 ∷ []))
 plan_line true done what = text_line done what
@@ -25,11 +25,11 @@ plan_line true done what = text_line done what
 abbrev pub id_text : FileId → List ℕ
 id_text file = codes "#" ++ (decimal file.number ++ (codes "," ++ decimal file.sequence))
 
--- a plan gets this text more
+-- this text is appended to the plan
 abbrev pub Tells : Plan → List ℕ → Plan → Type 0
 Tells old told new = string_bytes new.text ≡ string_bytes old.text ++ told
 
--- this is the ID of a file, where there is one of which something is known
+-- this is the ID of a file, if there is one of which something is known
 abbrev pub IsIdOf : (Facts → Type 0) → Option FileId → Type 0
 IsIdOf Are None = (facts : Facts) → Are facts → ⊥
 IsIdOf Are (Some file) = (facts : Facts) × Are facts × (facts.file ≡ file)
@@ -38,11 +38,11 @@ IsIdOf Are (Some file) = (facts : Facts) × Are facts × (facts.file ≡ file)
 abbrev pub IsNumberOf : (FileId → Type 0) → ℕ → Known → Type 0
 IsNumberOf IsThere number known = (known.file.number ≡ number) × IsThere known.file
 
--- both IDs are those of files, of which the facts differ in this
+-- both IDs belong to files whose facts differ in this
 abbrev pub HaveOther : {X : Type 0} → (Facts → X) → Disk → FileId → Disk → FileId → Type 0
 HaveOther see B one E other = (f : Facts) × (g : Facts) × AreOf B one f × AreOf E other g × (see f ≢ see g)
 
--- In what a file differs afterwards: in its attributes or bytes, as a comparison tells; in its protection; in its owner.
+-- In what a file differs afterwards: in its attributes or bytes, as a comparison reports; in its protection; in its owner.
 pub record DifferBy (B : Disk) (one : FileId) (E : Disk) (other : FileId) (d : Differs) : Type 0 where
   pub word : Option (List ℕ)
   pub compared : AreCompared B one E other word
@@ -50,20 +50,21 @@ pub record DifferBy (B : Disk) (one : FileId) (E : Disk) (other : FileId) (d : D
   pub protection : MatchBool d.protection (HaveOther (λ f. f.protection) B one E other) (¬ HaveOther (λ f. f.protection) B one E other)
   pub owner : MatchBool d.owner (HaveOther (λ f. f.owner) B one E other) (¬ HaveOther (λ f. f.owner) B one E other)
 
--- a line, where it is to be told
+-- a line, if it is to be printed
 abbrev pub line_where : Bool → Bool → List ℕ → List ℕ → List ℕ
 line_where json true done what = plan_line json done what
 line_where json false done what = []
 
--- what is told of a file that differs in these
+-- the lines for a file that differs in these
 abbrev pub done_lines : Bool → List ℕ → Differs → List ℕ
 done_lines json what d = line_where json d.contents (codes "change") what ++ (line_where json d.protection (codes "chmod") what ++ line_where json d.owner (codes "chown") what)
 
--- what is told of a file that is there before and afterwards, where it is known in what it differs
+-- the lines for a file that exists before and afterwards, if its differences are known
 abbrev pub IsToldOfFile : Bool → (FileId → FileId → Differs → Type 0) → FileId → FileId → List ℕ → List ℕ → Type 0
 IsToldOfFile json IsDifferent old new what told = (d : Differs) × IsDifferent old new d × (told ≡ done_lines json what d)
 
--- What is told of a path that is there afterwards: it is new, its file is another one, or its file has changed. Nothing is told of files 1 and 2, which change with any file.
+-- The lines for a path that exists afterwards: it is new, its file is another one, or its file has changed. Files 1 and 2, which change with any
+-- file, get no line.
 abbrev pub IsToldOfPath : Bool → (FileId → FileId → Differs → Type 0) → Option Known → Known → List ℕ → Type 0
 IsToldOfPath json IsDifferent None one told = told ≡ plan_line json (codes "make") (string_bytes one.path)
 IsToldOfPath json IsDifferent (Some known) one told =
@@ -71,7 +72,7 @@ IsToldOfPath json IsDifferent (Some known) one told =
     ⊎ ((2 < known.file.number) × (((known.file ≢ one.file) × (told ≡ plan_line json (codes "replace") (string_bytes one.path)))
     ⊎ ((known.file ≡ one.file) × IsToldOfFile json IsDifferent known.file one.file (string_bytes one.path) told)))
 
--- what is told of a number to which no path leads: its file goes, comes, is another one, or has changed
+-- the line for a number that no path reaches: its file is removed, added, another one, or changed
 abbrev pub IsToldOfNumber : Bool → (FileId → FileId → Differs → Type 0) → Option FileId → Option FileId → List ℕ → Type 0
 IsToldOfNumber json IsDifferent None None told = told ≡ []
 IsToldOfNumber json IsDifferent (Some old) None told = told ≡ plan_line json (codes "remove") (id_text old)
@@ -80,23 +81,23 @@ IsToldOfNumber json IsDifferent (Some old) (Some new) told =
     ((old ≢ new) × (told ≡ plan_line json (codes "remove") (id_text old) ++ plan_line json (codes "make") (id_text new)))
     ⊎ ((old ≡ new) × IsToldOfFile json IsDifferent old new (id_text new) told)
 
--- what is told of each of these, one after another
+-- the lines for each of these, in order
 abbrev pub AreTold : {A : Type 0} → (A → List ℕ → Type 0) → List A → List ℕ → Type 0
 AreTold IsToldOf [] told = told ≡ []
 AreTold IsToldOf (x ∷ xs) told = (first : List ℕ) × (rest : List ℕ) × (told ≡ first ++ rest) × IsToldOf x first × AreTold IsToldOf xs rest
 
--- a path that was there before goes where none of those afterwards is the same
+-- a path that existed before is removed if no path afterwards is the same
 abbrev pub IsToldOfOld : Bool → List Known → Known → List ℕ → Type 0
 IsToldOfOld json after one told =
     (LacksPath (string_bytes one.path) after × (told ≡ plan_line json (codes "remove") (string_bytes one.path)))
     ⊎ ((¬ LacksPath (string_bytes one.path) after) × (told ≡ []))
 
--- one of these that has the path, or none where none has it
+-- the entry with the path, or none if there is none
 abbrev pub IsKnownAt : List Known → List ℕ → Option Known → Type 0
 IsKnownAt all path None = LacksPath path all
 IsKnownAt all path (Some known) = Contains all known × has_path path known
 
--- what is told of a path that is there afterwards, by what was known of it before
+-- the lines for a path that exists afterwards, by its state before
 abbrev pub IsToldOfNew : Bool → (FileId → FileId → Differs → Type 0) → List Known → Known → List ℕ → Type 0
 IsToldOfNew json IsDifferent before one told = (known : Option Known) × IsKnownAt before (string_bytes one.path) known × IsToldOfPath json IsDifferent known one told
 
@@ -104,7 +105,7 @@ IsToldOfNew json IsDifferent before one told = (known : Option Known) × IsKnown
 abbrev pub IsNumbered : (FileId → Type 0) → List Known → ℕ → Type 0
 IsNumbered IsThere all number = (known : Known) × Contains all known × IsNumberOf IsThere number known
 
--- what is told of the file with a number, where no path leads to it; nothing where one does
+-- the lines for the file with a number, if no path reaches it; otherwise none
 abbrev pub IsToldWhere : Bool → Bool → Disk → Disk → ℕ → List ℕ → Type 0
 IsToldWhere json true B A number told = told ≡ []
 IsToldWhere json false B A number told = (old : Option FileId) × (new : Option FileId) × IsIdOf (AreFacts B.image B.layout number) old × IsIdOf (AreFacts A.image A.layout number) new
@@ -114,20 +115,20 @@ IsToldWhere json false B A number told = (old : Option FileId) × (new : Option 
 abbrev pub IsReached : Disk → List Known → Disk → List Known → ℕ → Type 0
 IsReached B before A after number = IsNumbered (IsNamedBy B) before number ⊎ IsNumbered (IsNamedBy A) after number
 
--- what is told of a number: nothing where a path leads to it before or afterwards
+-- the lines for a number: none if a path reaches it before or afterwards
 abbrev pub IsToldOfLeft : Bool → Disk → List Known → Disk → List Known → ℕ → List ℕ → Type 0
 IsToldOfLeft json B before A after number told = (reached : Bool) × MatchBool reached (IsReached B before A after number) (¬ IsReached B before A after number) × IsToldWhere json reached B A number told
 
--- what is told of the label: the new one, where it is another
+-- the line for the label: the new one, if it differs
 abbrev pub label_told : Bool → List ℕ → List ℕ → List ℕ
 label_told json old new = if bytes_eq old new then [] else plan_line json (codes "label") (shown_label new)
 
--- what is told of the labels of two volumes
+-- the line for the labels of two volumes
 abbrev pub IsToldOfLabel : Bool → Disk → Disk → List ℕ → Type 0
 IsToldOfLabel json B A told = (was : Info) × (is : Info) × IsInfoOf B.image B.layout was × IsInfoOf A.image A.layout is × (told ≡ label_told json was.label is.label)
 
--- The text of a plan, in lines or as JSON, from one volume to another: what goes of the paths before, what is told of those afterwards, of the numbers that no path leads to,
--- and of the label.
+-- The text of a plan, in lines or as JSON, from one volume to another: the removed paths, the lines for the paths afterwards, the lines for the
+-- numbers that no path reaches, and the line for the label.
 pub record IsPlan (json : Bool) (most : ℕ) (B A : Disk) (text : List ℕ) : Type 0 where
   pub before : List Known
   pub after : List Known

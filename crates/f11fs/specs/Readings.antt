@@ -1,4 +1,4 @@
--- Host files: their names, and what is read of them.
+-- Host files: their names, and the bytes read from them.
 use Rattle.std.specs.Prelude.{◌≡◌, ◌≢◌, ◌⊎◌, ℕ, List, ◌∷◌, ◌++◌, [], Option, Some, MatchOption, Bool, ◌||◌, true, false, IfOk, IfErr, ◌-◌, ◌≤◌, vec_len, codes, drop, if◌then◌else◌, nat_eq, string_bytes}
 use Rattle.std.specs.List.{list_any, position, starts_with}
 use Rattle.std.specs.Str.{bytes_eq}
@@ -16,19 +16,19 @@ use Rattle.fs_words.specs.declared.actions.Change.TheVariants as change
 use Rattle.f11fs.specs.declared.early.Early.{Early}
 use Rattle.f11fs.specs.declared.early.Taken.{Taken}
 
--- the name is what stands behind the last slash of a path, or all of it where there is none
+-- the name is the part after the last slash of a path, or the whole path without a slash
 abbrev pub IsLastPart : List ℕ → List ℕ → Type 0
 IsLastPart path name = LacksSlash name × ((path ≡ name) ⊎ ((folder : List ℕ) × (path ≡ folder ++ 47 ∷ name)))
 
--- the place of the first that was read at this path
+-- the index of the first contents read at this path
 abbrev pub first_at : List ℕ → List Taken → Option ℕ
 first_at path taken = position (λ one. bytes_eq (string_bytes one.path) path) taken
 
--- nothing is read early for another command than a put, an append and an untar
+-- nothing is read early for another command than a put, an append or an untar
 abbrev pub ReadsNothing : Action → Type 0
 ReadsNothing asked = ((how : PutWords) → asked ≢ action.Change (change.Put how)) × (asked ≢ action.Change change.Append) × (asked ≢ action.Change change.Untar)
 
--- A file was read to the end, behind those that were read before, and so much less may be read from now on; where there was no room, nothing was.
+-- A file was read to the end, after the files that were read before, which reduces the room for later reads. If there was no room, nothing was read.
 abbrev pub AddsReading : List ℕ → Early → Early → Type 0
 AddsReading path old new = MatchOption old.room (new ≡ old) (λ room.
     (one : Taken) × (new.taken.items ≡ old.taken.items ++ one ∷ []) × (string_bytes one.path ≡ path)
@@ -38,7 +38,7 @@ AddsReading path old new = MatchOption old.room (new ≡ old) (λ room.
 abbrev pub MayAddReading : List ℕ → Early → Early → Type 0
 MayAddReading path old new = (new ≡ old) ⊎ AddsReading path old new
 
--- so it is with each of these paths, one after another
+-- the same for each of these paths, in order
 abbrev pub MayAddReadings : List (Bor (List ℕ)) → Early → Early → Type 0
 MayAddReadings [] old new = new ≡ old
 MayAddReadings (path ∷ paths) old new = (mid : Early) × MayAddReading path.now old mid × MayAddReadings paths mid new

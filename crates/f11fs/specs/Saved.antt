@@ -1,4 +1,4 @@
--- How a run ends that changes an image: what is locked, and what is saved of it.
+-- How a run ends that changes an image: what is locked, and what of it is saved.
 use Rattle.std.specs.Prelude.{◌≡◌, ◌⊎◌, ℕ, List, Bool, Result, Ok, Err, IsTrue}
 use Rattle.std.specs.Borrow.{Bor}
 use Rattle.fs_host.specs.Faults.{may_end_locking, may_end_storing, may_end_copying}
@@ -13,27 +13,27 @@ use Rattle.ods_shell.specs.declared.status.Status.TheVariants as status
 use Rattle.f11fs.specs.declared.changing.Finished.{Finished}
 use Rattle.f11fs.specs.declared.changing.Finished.TheVariants as ended
 
--- all is done, or the host left something undone behind an image that is saved
+-- all is done, or the host left something undone after an image was saved
 abbrev pub IsSavedStatus : Status → Type 0
 IsSavedStatus s = (s ≡ status.Done) ⊎ (s ≡ status.Host)
 
--- the status of a run that ended so
+-- the status of a run that ended this way
 abbrev pub EndsSaved : Finished → Type 0
 EndsSaved (ended.Told s) = s ≡ status.Done
 EndsSaved (ended.Saved s) = IsSavedStatus s
 
--- why an image is not locked, or has no volume
+-- why an image is not locked, or has no volume that may be changed
 abbrev pub IsNotLocked : Bor (List ℕ) → Bool → Bool → Stop → Type 0
 IsNotLocked path writes force s =
     ((fault : SaveFault) × IsTrue (may_end_locking writes force fault) × (s ≡ stop.Word path (word.Unsaved fault)))
-    ⊎ (((fault : VolumeFault) × IsNoVolume path fault s) ⊎ (s ≡ stop.NoMemory))
+    ⊎ ((((fault : VolumeFault) × IsNoVolume path fault s) ⊎ (s ≡ stop.NoMemory)) ⊎ (s ≡ stop.Word path word.Lacking))
 
--- the image, which may be a floppy in physical order, is saved in a new file at this path, or it is said why it is not
+-- the image, which may be a floppy in physical order, is saved in a new file at this path, or the reason why it is not is returned
 abbrev pub IsWrittenTo : Bool → Bor (List ℕ) → Result Finished Stop → Type 0
 IsWrittenTo floppy path (Ok f) = (s : Status) × (f ≡ ended.Saved s)
 IsWrittenTo floppy path (Err s) = (fault : SaveFault) × IsTrue (may_end_copying floppy fault) × (s ≡ stop.Word path (word.Unsaved fault))
 
--- why an image is not saved in its place: it is shorter than its volume, or the host does not take it
+-- why an image is not saved in its own file: it is shorter than its volume, or the host does not accept it
 abbrev pub IsNotSaved : Bor (List ℕ) → Bool → Bool → Bool → Bool → Stop → Type 0
 IsNotSaved path floppy force backup break_links s =
     (s ≡ stop.Word path word.Short)

@@ -1,4 +1,4 @@
--- What of a tree of the host is put, and why something is not.
+-- Which entries of a tree of the host are put, and why an entry is not.
 use Rattle.std.specs.Prelude.{◌≡◌, ◌≢◌, ◌⊎◌, ◌++◌, ◌∷◌, ℕ, Bool, true, false, List, [], Option, Some, None, codes, string_bytes}
 use Rattle.std.specs.Fs.{IsFile, file_type, metadata_len}
 use Rattle.std.specs.List.{All}
@@ -27,7 +27,7 @@ HasTreeStatus Other s = s ≡ Host
 HasTreeStatus OwnTree s = s ≡ Host
 HasTreeStatus (Unread fault) s = s ≡ Host
 
--- what has this fault may be left out: it has no name on the volume, or is no file and no folder
+-- an entry with this fault may be left out: it has no name on the volume, or is neither a file nor a folder
 abbrev pub may_be_left : TreeFault → Bool
 may_be_left (Name why) = true
 may_be_left Folder = true
@@ -35,7 +35,7 @@ may_be_left Other = true
 may_be_left OwnTree = false
 may_be_left (Unread fault) = false
 
--- why something of this kind is not put
+-- why an entry of this kind is not put
 abbrev pub fault_of_kind : TreeKind → Option TreeFault
 fault_of_kind tree_kind.Folder = None
 fault_of_kind tree_kind.File = None
@@ -43,19 +43,19 @@ fault_of_kind tree_kind.Other = Some Other
 fault_of_kind tree_kind.OwnTree = Some OwnTree
 fault_of_kind (tree_kind.Unread fault) = Some (Unread fault)
 
--- The path says no place on the volume, for this reason. That there is no memory to see it is none.
+-- The path specifies no location on the volume, for this reason. Out of memory is no such reason.
 abbrev pub IsUnplaced : List ℕ → Why → Type 0
 IsUnplaced path why = SaysNoPlace path why × (why ≢ no_memory)
 
--- what is put of a tree: a folder or a file whose path says a place
+-- an entry of a tree that is put: a folder or a file whose path specifies a location
 abbrev pub IsKept : TreeEntry → Type 0
 IsKept entry = ((entry.kind ≡ tree_kind.Folder) ⊎ (entry.kind ≡ tree_kind.File)) × IsPlaced entry
 
--- what is not: it is no folder and no file, or its path says no place
+-- an entry that is not put: it is neither a folder nor a file, or its path specifies no location
 abbrev pub IsLeft : TreeEntry → Type 0
 IsLeft entry = ((entry.kind ≢ tree_kind.Folder) × (entry.kind ≢ tree_kind.File)) ⊎ ((why : Why) × IsUnplaced (string_bytes entry.path) why)
 
--- just those of these that are put, in their order
+-- exactly the entries of these that are put, in their order
 abbrev pub AreKept : List TreeEntry → List TreeEntry → Type 0
 AreKept [] kept = kept ≡ []
 AreKept (entry ∷ listed) kept = (IsKept entry × (rest : List TreeEntry) × (kept ≡ entry ∷ rest) × AreKept listed rest) ⊎ (IsLeft entry × AreKept listed kept)
@@ -64,24 +64,25 @@ AreKept (entry ∷ listed) kept = (IsKept entry × (rest : List TreeEntry) × (k
 abbrev pub IsWithoutSlashes : List ℕ → List ℕ → Type 0
 IsWithoutSlashes folder front = ((slashes : List ℕ) × (folder ≡ front ++ slashes) × All (λ c. c ≡ 47) slashes) × ((before : List ℕ) → front ≢ before ++ 47 ∷ [])
 
--- the path on the host of what stands in a folder: the folder's, or one slash and the path in it behind that
+-- the path on the host of an entry of a folder: the path of the folder, a slash, and the path in it
 abbrev pub IsHostPath : List ℕ → List ℕ → List ℕ → Type 0
 IsHostPath folder [] text = text ≡ folder
 IsHostPath folder (c ∷ path) text = (front : List ℕ) × IsWithoutSlashes folder front × (text ≡ front ++ (47 ∷ c ∷ path))
 
--- a line that says of a path why it is not put
+-- a line that states why a path is not put
 abbrev pub tree_line : List ℕ → List ℕ → List ℕ
 tree_line path why = shown_text path ++ (codes ": " ++ (why ++ codes "\n"))
 
--- A line is added that says of something in a folder why it is not put. The texts of faults have no clause.
+-- A line is added that states why an entry of a folder is not put. The texts of faults have no clause.
 abbrev pub AddsLine : List ℕ → List ℕ → List ℕ → List ℕ → Type 0
 AddsLine folder path old new = (host : List ℕ) × IsHostPath folder path host × ((why : List ℕ) × (new ≡ old ++ tree_line host why))
 
--- what is said of a host file that is larger than the room: how many bytes a plain file has, and of any other the room alone
+-- the text for a host file larger than the room: for a plain file its number of bytes, for any other only the room
 abbrev pub IsTooLarge : Metadata → ℕ → WordFault → Type 0
 IsTooLarge found room fault = (IsFile (file_type found) × (fault ≡ Large (metadata_len found) room)) ⊎ ((¬ IsFile (file_type found)) × (fault ≡ LargeStream room))
 
--- Why something in a tree is not put. Where its path says a place its kind tells it, else a name that says none. That is told of no more than one on the way to it.
+-- Why an entry of a tree is not put. If its path specifies a location its kind is the reason, otherwise an invalid name, which may belong to a folder
+-- on the way.
 abbrev pub IsFault : TreeEntry → Bool → Option TreeFault → Type 0
 IsFault entry skip fault =
     (IsPlaced entry × (fault ≡ fault_of_kind entry.kind))

@@ -15,7 +15,7 @@ use Rattle.ods_upkeep.specs.declared.putting_tree.TreeForm.{TreeForm}
 use Rattle.f11fs.specs.Dated.{IsHostTime, takes_times}
 use Rattle.f11fs.specs.Forms.{form_said, placing_said}
 
--- the first word is a folder of the host, and the second a directory of the volume, or the master directory where none is said
+-- the first word is a folder of the host, and the second a directory of the volume, or the master directory if there is no second
 abbrev pub AreTreeWords : List (Bor (List ℕ)) → List ℕ → List ℕ → Type 0
 AreTreeWords [] folder to = ⊥
 AreTreeWords (one ∷ []) folder to = (folder ≡ one.now) × (to ≡ codes "[0,0]")
@@ -26,11 +26,11 @@ AreTreeWords (one ∷ other ∷ third ∷ more) folder to = ⊥
 abbrev pub tree_form : PutWords → List ℕ → TreeForm
 tree_form how stamp = record { stamp = stamp; form = form_said how; placing = unwrap_or (placing_said how) Anywhere; owner = how.owner }
 
--- the path of what stands in a tree says a place on the volume
+-- the path of an entry in a tree specifies a location on the volume
 abbrev pub IsPlaced : TreeEntry → Type 0
 IsPlaced entry = SaysPlace (string_bytes entry.path)
 
--- a file of the tree is put at the time of the run, or where it is dated at that of its host file; the host gave its bytes
+-- a file of the tree is put at the time of the run, or if it is dated at the time of its host file; the host gave its bytes
 abbrev pub IsFilePut : Bool → TreeForm → FileId → List ℕ → Filed → Filed → Type 0
 IsFilePut dated how dir path old new =
     (bytes : List ℕ) × ((stamp : List ℕ) × IsHostTime (not dated) how.stamp stamp × IsLeafPut (record how { stamp = stamp }) dir path bytes old new)
@@ -46,13 +46,14 @@ IsKindPut (tree_kind.Unread fault) dated how dir path old new = new ≡ old
 abbrev pub IsEntryPut : Bool → TreeForm → FileId → TreeEntry → Filed → Filed → Type 0
 IsEntryPut dated how dir entry old new = IsKindPut entry.kind dated how dir (string_bytes entry.path) old new
 
--- these, one after another
+-- these, in order
 abbrev pub AreEntriesPut : Bool → TreeForm → FileId → List TreeEntry → Filed → Filed → Type 0
 AreEntriesPut dated how dir [] old new = new ≡ old
 AreEntriesPut dated how dir (e ∷ entries) old new = (mid : Filed) × IsEntryPut dated how dir e old mid × AreEntriesPut dated how dir entries mid new
 
--- The folders and files of a tree are put below the directory that the words say, which is made where it is not there. The host gave the tree and the bytes of its files. Before that INDEXF.SYS may get
--- the headers that it lacks for all of them; `timed` is whether the words say a time. Nothing else was done.
+-- The folders and files of a tree are put below the specified directory, which is created if it does not exist. The host gave the tree and the bytes
+-- of its files. Before that INDEXF.SYS may get the headers that it lacks for all of them; `timed` is whether the words specify a time. Nothing else
+-- was done.
 pub record IsTreePut (timed : Bool) (how : PutWords) (words : List (Bor (List ℕ))) (stamp : List ℕ) (old new : Filed) : Type 0 where
   pub folder : List ℕ
   pub to : List ℕ

@@ -1,4 +1,4 @@
-//! `append`: a file of the host, put behind the end of a file of the volume.
+//! `append`: a file of the host, put past the end of a file of the volume.
 ghost use Rattle.std.specs.Prelude.{◌≡◌, IfErr, OnOk, slice_get};
 ghost use Rattle.ods_filing.specs.Led.{IsLed};
 ghost use Rattle.ods_upkeep.specs.Appended.{IsGrown};
@@ -17,7 +17,7 @@ use ods_upkeep::{append_bytes, open_end, room_behind};
 use std::fs::File;
 use std::rt::Files;
 
-/// `append`: the first word is the path on the volume, and the second the host file, or `-`.
+/// Runs `append`: the first word is the path on the volume, and the second the host file, or `-`.
 #[tactic(auto, using(crate::proofs::Appended::to_first))]
 pub fn append<'a, R: Files<File = File> + AllocGlobal + Eprint>(
     rt: &R,

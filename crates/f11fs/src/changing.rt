@@ -3,7 +3,7 @@ ghost use Rattle.std.specs.Prelude.{◌≡◌, ◌⊎◌, ◌&&◌, true, false,
 ghost use Rattle.fs_host.specs.{Found.SaysShort, Kept.force_kept, Kept.is_floppy, Kept.remark_kept, Times.IsStampOfLocal};
 ghost use Rattle.ods_shell.specs.declared.status.Status.{Status as Code};
 ghost use Rattle.ods_upkeep.specs.Pieces.{HasStatus};
-ghost use Rattle.fs_reads.specs.Ends.{StopsWith};
+ghost use Rattle.fs_reads.specs.{Ends.StopsWith, Volumes.LacksBlocks};
 ghost use Rattle.fs_reads.specs.declared.stop.Stop.{Stop as End};
 ghost use Rattle.fs_reads.specs.declared.stop.WordFault.{WordFault as AWordFault};
 ghost use Rattle.f11fs.specs.{Changed.IsChanged, Changed.IsLabelled, Changed.IsNoLabel, Changed.IsRefusal, Changed.KeepsTo, Saved.EndsSaved, Saved.IsNotLocked, Saved.IsNotSaved, Saved.IsSavedStatus, Saved.IsWrittenTo};
@@ -18,7 +18,10 @@ use crate::putting_tree::put_files;
 use crate::telling::plan_text;
 use crate::untarring::untar;
 use fs_host::{Locked, Shown, Unfinished, stamp_of_now};
-use fs_reads::{Stop, WordFault, image_of, say_extent, send, stop_about, volume_of};
+use fs_reads::{
+    Stop, WordFault, image_of, lacks_blocks, say_extent, send, stop_about, stop_at_own_output,
+    volume_of,
+};
 use fs_words::{Change, Saving, Words};
 use ods_base::{Image, Uic};
 use ods_filing::Filing;
@@ -32,13 +35,13 @@ use ods_upkeep::{
 };
 use std::alloc::{AllocError, Global};
 
-/// The user of whom changes ask rights where none is said.
+/// The user whose rights apply to changes if no user is specified.
 pub const KEEPER: Uic = Uic {
     group: 1,
     member: 1,
 };
 
-/// A change of the image.
+/// Makes the requested change on the locked image and saves it, or with `-n` prints what would change.
 pub fn change_image<'a, R: Host>(
     rt: &R,
     words: &Words<'a>,
@@ -46,6 +49,7 @@ pub fn change_image<'a, R: Host>(
 ) -> Result<Status, Stop<'a>>
     ensures { IfOk result IsSavedStatus }
 {
+    stop_at_own_output(rt, words.image)?;
     let mut early = Early::of(rt, words.image);
     early.read_words(rt, words)?;
     let (mut locked, volume) = lock_volume(rt, words, false)?;
@@ -72,7 +76,8 @@ fn changed<'a, R: Host>(
     Ok(filing)
 }
 
-/// Locks the image, and gives its volume. Where it is to be copied, it shares its blocks with its copies.
+/// Locks the image, and returns its volume. With `is_copied`, or if the command only prints what would change, the volume shares its blocks with
+/// its copies.
 pub fn lock_volume<'a, R: Host>(
     rt: &R,
     words: &Words<'a>,
@@ -98,20 +103,37 @@ pub fn lock_volume<'a, R: Host>(
     }
 }
 
-/// Locks the image, and reads its blocks.
+/// Locks the image, and reads its blocks. An image that ends before a block of a file is refused.
 pub fn lock_image<'a, R: Host>(rt: &R, words: &Words<'a>) -> Result<(Locked, Image), Stop<'a>>
-    ensures { IfErr result (IsNotLocked words.now.image (not (is_some words.now.saving.out) && not words.now.saving.only_tells) words.now.force) }
+    ensures whole { IfOk result (λ found. ¬ LacksBlocks (remark_kept found.0) found.1) }
+    ensures err { IfErr result (IsNotLocked words.now.image (not (is_some words.now.saving.out) && not words.now.saving.only_tells) words.now.force) }
 {
     let writes = words.saving.out.is_none() && !words.saving.only_tells;
     let mut locked = match Locked::of(rt, words.image, writes, words.force) {
         Ok(locked) => locked,
         Err(fault) => return Err(Stop::Word(words.image, WordFault::Unsaved(fault))),
     };
+    say_unseen(rt, words.image, locked.unseen());
     let image = locked.read(rt.alloc(), words.blocks, layers_of(words.order));
     say_extent(rt, words.image, locked.extent(), false);
-    match image_of(rt, words.image, image) {
-        Ok(image) => Ok((locked, image)),
-        Err(stop) => Err(stop),
+    let image = match image_of(rt, words.image, image) {
+        Ok(image) => image,
+        Err(stop) => return Err(stop),
+    };
+    match lacks_blocks(rt.alloc(), &image, locked.extent()) {
+        Ok(false) => Ok((locked, image)),
+        Ok(true) => Err(Stop::Word(words.image, WordFault::Lacking)),
+        Err(_) => Err(Stop::from(AllocError)),
+    }
+}
+
+/// Says how many processes may have the image open, if the search for one ran out of time.
+fn say_unseen<R: Eprint>(rt: &R, path: &str, count: u32) {
+    if count > 0 {
+        let path = Shown(path);
+        let _ = eprintln!(rt;
+            "f11fs: {path}: {count} processes could not be looked at in time; one of them may have it open"
+        );
     }
 }
 
@@ -126,7 +148,7 @@ fn sharing<'a>(volume: Mounted) -> Result<Mounted, Stop<'a>>
     }
 }
 
-/// The volume as it is before a change, where it is told what would change.
+/// Returns a copy of the volume before a change, if the command only prints what would change.
 pub fn kept_before<'a>(words: &Words<'_>, volume: &Mounted) -> Result<Option<Mounted>, Stop<'a>>
     ensures { IfOk result (λ kept. MatchOption kept (words.now.saving.only_tells ≡ false) (λ copy. (words.now.saving.only_tells ≡ true) × (copy ≡ volume.now))) }
 {
@@ -137,16 +159,16 @@ pub fn kept_before<'a>(words: &Words<'_>, volume: &Mounted) -> Result<Option<Mou
     }
 }
 
-/// How a run of changes ended, where nothing failed.
+/// How a run of changes ended, if nothing failed.
 #[derive(Clone, Copy)]
 pub enum Finished {
-    /// It was told what would change, or nothing has changed.
+    /// The changes were printed and not saved, or nothing has changed.
     Told(Status),
     /// The changed image is saved.
     Saved(Status),
 }
 
-/// The status of a run that ended so.
+/// Returns the exit status of a run that ended this way.
 pub fn status_of(finished: Finished) -> Status
     ensures { EndsSaved finished → IsSavedStatus result }
 {
@@ -156,14 +178,15 @@ pub fn status_of(finished: Finished) -> Status
     }
 }
 
-/// Who asks, and the time that new files get.
+/// The requesting user, and the time of new files.
 #[derive(Clone, Copy)]
 pub struct Asker {
     pub user: Uic,
     pub stamp: Stamp,
 }
 
-/// Who asks for changes, and the time that new files get.
+/// Returns the requesting user, and the time of new files: from the words, otherwise `KEEPER` and the local time. Fails with `NoTime` if the words
+/// specify no time and the host has none.
 pub fn asker_of<'a, R: Host>(rt: &R, words: &Words<'a>) -> Result<Asker, Stop<'a>>
     ensures user { IfOk result (λ asker. asker.user ≡ unwrap_or words.now.user KEEPER) }
     ensures stamp { IfOk result (λ asker. MatchOption words.now.stamp (IsStampOfLocal asker.stamp) (λ said. asker.stamp ≡ said)) }
@@ -179,8 +202,8 @@ pub fn asker_of<'a, R: Host>(rt: &R, words: &Words<'a>) -> Result<Asker, Stop<'a
     }
 }
 
-/// Tells what would change, where the volume before is given. Else saves the changed image where the words say; one that is as it was is left
-/// alone.
+/// Prints what would change, if the volume before is given. Otherwise saves the changed image as the words specify. An unchanged image is not
+/// written.
 pub fn finish<'a, R: Host>(
     rt: &R,
     words: &Words<'a>,
@@ -202,7 +225,8 @@ pub fn finish<'a, R: Host>(
     save_image(rt, words, locked, volume.image())
 }
 
-/// Saves the changed image where the words say; one that is as it was is left alone.
+/// Saves the changed image as the words specify. Without `-o`, an unchanged image is not written, and an image shorter than its volume only with
+/// `--force`.
 pub fn save_image<'a, R: Host>(
     rt: &R,
     words: &Words<'a>,
@@ -238,7 +262,7 @@ pub fn save_image<'a, R: Host>(
     }
 }
 
-/// Says what is wanting of an image that is saved, and gives the status.
+/// Prints what is unfinished about a saved image, if anything, and returns the status: `Host` in that case.
 pub fn say_unfinished<R: Eprint>(rt: &R, path: &str, wanting: Option<Unfinished>) -> Status
     ensures { MatchOption wanting (result ≡ Code.Done) (λ _. result ≡ Code.Host) }
 {
@@ -252,7 +276,7 @@ pub fn say_unfinished<R: Eprint>(rt: &R, path: &str, wanting: Option<Unfinished>
     }
 }
 
-/// Makes the change that the words ask for. Refused, it may be made in part.
+/// Makes the requested change. A refused change may be made in part.
 #[tactic(auto, using(crate::proofs::Giving::done_or_same, crate::proofs::Giving::some_got, crate::proofs::Leading::through, crate::proofs::Leading::unmoved))]
 pub fn change_volume<'a, R: Host>(
     rt: &R,
@@ -352,13 +376,13 @@ fn say_nested<R: AllocGlobal + Eprint>(rt: &R, words: &Words<'_>) {
         if let Ok(true) = is_below_another(rt.alloc(), *path) {
             let path = Shown(*path);
             let _ = eprintln!(rt;
-                "f11fs: {path}: RSX knows directories in the master directory alone"
+                "f11fs: {path}: RSX knows only directories in the master directory"
             );
         }
     }
 }
 
-/// The end of a command whose change is refused.
+/// Returns the end of a command whose change is refused.
 #[tactic(auto, using(crate::proofs::Refusals::is_refusal))]
 pub fn stop_failed<'a>(alloc: Global, failure: &Failure) -> Stop<'a>
     ensures refused { IsRefusal result }

@@ -1,4 +1,4 @@
-//! Commands in a file of the host, one a line: obeyed one after another on the volume in memory; then the image is saved, once.
+//! Commands in a file of the host, one per line: they run in order on the volume in memory, and then the image is saved, once.
 ghost use Rattle.std.specs.Prelude.{◌≡◌, ◌≤◌, ◌⊎◌, ◌&&◌, ◌||◌, ℕ, true, false, codes, IfErr, IfOk, IsTrue, IsUtf8, MatchOption, length, not, unwrap_or, vec_len};
 ghost use Rattle.std.specs.{List.list_any, Str.Lines.lines, Str.bytes_eq};
 ghost use Rattle.fs_host.specs.Faults.{is_reason};
@@ -11,8 +11,12 @@ use crate::early::{Early, read_bytes};
 use crate::host::Host;
 use crate::lines::{say_bad_line, say_bad_words, say_no_memory, say_wrong};
 use crate::looking::{look_all, only_look};
+use crate::version::VERSION;
 use fs_host::{Collecting, HostFault, Noting};
-use fs_reads::{Progress, Stop, WordFault, check_image, info_image, obey, say_end, show_space};
+use fs_reads::{
+    Progress, Stop, WordFault, check_image, info_image, obey, say_end, show_space,
+    stop_at_own_output,
+};
 use fs_words::{Action, Change, Words, line_words, parse_line};
 use ods_base::write_bytes;
 use ods_filing::Filing;
@@ -28,19 +32,21 @@ use std::rt::Files;
 /// The most bytes of a file of commands.
 const MOST: u64 = 1_048_576;
 
-/// What is said of a command that no file of commands has.
-pub const NO_COMMAND: &str = "error: no command for a file of commands";
+/// The message for a command that a file of commands may not contain.
+pub const NO_COMMAND: &str = "error: a file of commands cannot have this command";
 
-/// What is said of a line that says how the image is saved.
-pub const SAVED_BEFORE: &str = "error: how the image is saved is said before IMAGE";
+/// The message for a line with an option that specifies how the image is saved.
+pub const SAVED_BEFORE: &str = "error: -o, --backup, --break-links and -n must be before IMAGE";
 
-/// Obeys the commands in this file. A refusal ends the run, and nothing is saved; with `keep_going` the refused command has done nothing.
+/// Runs the commands in this file. A refusal ends the run, and nothing is saved. With `keep_going` the run goes on, and the refused command has done
+/// nothing.
 pub fn obey_file<'a, R: Host>(
     rt: &R,
     words: &Words<'a>,
     file: &'a str,
     keep_going: bool,
 ) -> Result<Status, Stop<'a>> {
+    stop_at_own_output(rt, words.image)?;
     let bytes = commands_in(rt, file)?;
     let Some(text) = commands_text(bytes.as_slice()) else {
         return Err(Stop::Word(file, WordFault::NoText));
@@ -78,13 +84,13 @@ pub fn obey_file<'a, R: Host>(
 /// What is the same for each line of a run.
 #[derive(Clone, Copy)]
 struct Run<'r, 'a> {
-    /// Who asks, and the time of new files, where a line says none.
+    /// The requesting user and the time of new files, for lines without their own.
     asker: Asker,
     /// The words of the run.
     outer: &'r Words<'a>,
     file: &'a str,
     keep_going: bool,
-    /// How many bytes stand behind the volume.
+    /// How many bytes come past the volume.
     behind: u64,
 }
 
@@ -144,7 +150,7 @@ fn read_line_early<'a, R: Host>(
         Ok(words) => words,
         Err(_) => return Ok(()),
     };
-    match parse_line(rt.alloc(), outer.image, words.as_slice()) {
+    match parse_line(rt.alloc(), outer.image, words.as_slice(), VERSION) {
         Ok(Some(own)) => {
             if reads_input(outer, &own) {
                 return Ok(());
@@ -212,7 +218,7 @@ fn obey_lines<R: Host>(
     (status, true)
 }
 
-/// Whether a line ends the run: its volume does not stand, or it is refused and the run is not to go on then.
+/// Returns whether a line ends the run: it has changed the volume in part, or the line is refused and the run does not go on after a refusal.
 pub fn ends_run(done: Status, stands: bool, goes_on: bool) -> bool
     ensures { result ≡ (not stands || (is_refused done && not goes_on)) }
 {
@@ -254,7 +260,7 @@ fn obey_line<R: Host>(
         Ok(words) => words,
         Err(fault) => return (say_bad_line(rt, fault), true),
     };
-    match parse_line(rt.alloc(), run.outer.image, words.as_slice()) {
+    match parse_line(rt.alloc(), run.outer.image, words.as_slice(), VERSION) {
         Ok(Some(own)) => obey_words(rt, filing, run, own, early),
         Ok(None) => (Status::Done, true),
         Err(fault) => (say_bad_words(rt, fault), true),
@@ -323,7 +329,8 @@ fn obey_words<R: Host>(
     obey_action(rt, filing, run, stamp, &as_outer(own, run.outer), early)
 }
 
-/// The words of a line, with what it does not say of users and forms as in the words of the run.
+/// Returns the words of a line completed from the words of the run: its user if the line has none, and `--force`, `--json`, `-q` if either has them.
+/// `-n` is taken from the run.
 pub fn as_outer<'a>(own: Words<'a>, outer: &Words<'_>) -> Words<'a>
     ensures { IsAsOuter own.entry outer.now result }
 {
@@ -354,7 +361,10 @@ fn obey_action<R: Host>(
         Action::Change(Change::Put(_) | Change::Append | Change::Untar)
             if reads_input(run.outer, own) => {
             (
-                say_wrong(rt, "error: standard input has the commands"),
+                say_wrong(
+                    rt,
+                    "error: standard input has the commands; name a file instead",
+                ),
                 true,
             )
         }

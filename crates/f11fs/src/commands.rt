@@ -1,4 +1,4 @@
-//! Which command the words ask for.
+//! The command that the words request.
 ghost use Rattle.std.specs.Prelude.{◌≡◌, ◌&&◌, not};
 ghost use Rattle.f11fs.specs.Seen.{prints_names};
 
@@ -14,14 +14,14 @@ use fs_reads::{
 use fs_words::{Action, Words};
 use ods_shell::Status;
 
-/// Which streams are terminals, where people see what is written.
+/// Which streams are terminals, and therefore seen by people.
 #[derive(Clone, Copy)]
 pub struct Seen {
     pub errors: bool,
     pub output: bool,
 }
 
-/// Does what the words ask for.
+/// Runs the requested command, and returns its exit status.
 pub fn run_command<R: Host>(rt: &R, words: &Words<'_>, seen: Seen) -> Status {
     let mut progress = Progress::begin(rt, shows_progress(words, seen));
     let done = match words.action {

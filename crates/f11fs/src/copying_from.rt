@@ -1,4 +1,4 @@
-//! `cp --from`: files of another image, which may be one that a mount refuses, copied into the volume.
+//! `cp --from`: copies files of another image, which a mount may refuse, into the volume.
 ghost use Rattle.std.specs.Prelude.{◌≡◌, IfErr, OnOk};
 ghost use Rattle.f11fs.specs.{Changed.IsRefusal, CopiedOver.CopiesBelow, CopiedOver.CopiesOver, CopiedOver.CopiesTreeOver, CopiedOver.copying_said};
 
@@ -14,7 +14,7 @@ use ods_upkeep::{CopyFrom, copy_from, copy_tree_from};
 use std::fs::File;
 use std::rt::Files;
 
-/// Copies files of the volume of another image, by what the words say.
+/// Copies files of the volume of another image, as the words specify.
 pub fn copy_from_image<'a, R: Files<File = File> + AllocGlobal + Eprint>(
     rt: &R,
     filing: &mut Filing,

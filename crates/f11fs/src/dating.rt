@@ -1,4 +1,4 @@
-//! The times of new files: that of the run, or the local time at which a host file or the member of an archive was changed.
+//! The times of new files: the time of the run, or the local time at which a host file or an archive member was changed.
 ghost use Rattle.std.specs.Prelude.{◌≡◌, false, is_some, not};
 ghost use Rattle.f11fs.specs.Dated.{IsHostTime, IsTimeOf, takes_times};
 
@@ -10,7 +10,7 @@ use std::fs::File;
 use std::os::unix::fs::MetadataExt;
 use std::rt::Files;
 
-/// Whether new files get the times of their host files: that is asked for, and no time is said.
+/// Returns whether new files get the times of their host files: this is requested, and no time is specified.
 pub fn takes_times(how: &PutWords<'_>, said: Option<Stamp>) -> bool
     ensures { result ≡ takes_times how.now (is_some said) }
 {
@@ -20,7 +20,7 @@ pub fn takes_times(how: &PutWords<'_>, said: Option<Stamp>) -> bool
     }
 }
 
-/// The local time at this second since 1970, where a zone is given and has such a time; else the time of the run.
+/// Returns the local time at this second since 1970, if a zone is given and has such a time; otherwise the time of the run.
 pub fn time_at(zone: &Option<HostZone>, second: u64, run: Stamp) -> Stamp
     ensures { IsTimeOf (not (is_some zone.now)) run second result }
 {
@@ -50,8 +50,8 @@ fn small_time_in(zone: &HostZone, second: u32, run: Stamp) -> Stamp
     }
 }
 
-/// The time of a file that is put from this path of the host: the local time at which the host file was changed, where a zone is given and it is a plain file; else
-/// the time of the run. No contract of std says when a file was changed.
+/// Returns the time of a file that is put from this path of the host: the local time of the last change of the host file, if a zone is given and it
+/// is a plain file; otherwise the time of the run. No contract of std states when a file was changed.
 pub fn host_time<R: Files<File = File>>(
     rt: &R,
     zone: &Option<HostZone>,

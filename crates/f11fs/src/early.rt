@@ -1,5 +1,5 @@
-//! Host files that are no plain files, as pipes and standard input: `put`, `append` and `untar` read them before the image is locked, so that nobody waits under the
-//! lock.
+//! Host files that are not plain files, such as pipes and standard input. `put`, `append` and `untar` read them before the image is locked, so that
+//! nobody waits under the lock.
 ghost use Rattle.std.specs.Prelude.{◌≡◌, ◌<◌, ◌≤◌, ◌-◌, ◌∷◌, ◌++◌, ◌⊎◌, ℕ, [], MatchOption, None, Some, IfErr, IfOk, IfSome, IsTrue, MatchResult, OnOk, drop, length, min, slice_get, vec_len};
 ghost use Rattle.fs_host.specs.Faults.{is_reason};
 ghost use Rattle.std.specs.List.{remove};
@@ -24,16 +24,17 @@ struct Taken {
     bytes: Result<Vec<u8>, HostFault>,
 }
 
-/// What was read early, in the order of the words.
+/// The contents that were read early, in the order of the words.
 #[derive(Drop)]
 pub struct Early {
     taken: Vec<Taken>,
-    /// How many bytes may still be read: together no more than the image has. None where there is no image.
+    /// How many bytes may still be read: in total the length of the image file, or the largest image size if it is not a plain file.
+    /// For an archive, `archive_room` raises the limit. None if there is no image.
     room: Option<u64>,
 }
 
 impl Early {
-    /// Nothing yet, for the image at this path.
+    /// Returns an empty store for the image at this path.
     pub fn of<R: Files + AllocGlobal>(rt: &R, image: &str) -> Early
         ensures { result.taken.items ≡ [] }
     {
@@ -47,7 +48,7 @@ impl Early {
         }
     }
 
-    /// Reads what the words of a `put`, an `append` or an `untar` name and is no plain file. Why reading failed is kept, for that command.
+    /// Reads the sources of a `put`, an `append` or an `untar` that are not plain files. The reason of a failure is kept for that command.
     pub fn read_words<'a, R: Files<File = File> + Input + AllocGlobal>(
         &mut self,
         rt: &R,
@@ -69,7 +70,7 @@ impl Early {
         }
     }
 
-    /// Reads each of these that is no plain file.
+    /// Reads each of these that is not a plain file.
     fn read_all<'a, R: Files<File = File> + Input + AllocGlobal>(
         &mut self,
         rt: &R,
@@ -83,7 +84,7 @@ impl Early {
         Ok(())
     }
 
-    /// Reads what is at this path, where it is no plain file.
+    /// Reads the file at this path, if it is not a plain file.
     fn read_stream<'a, R: Files<File = File> + Input + AllocGlobal>(
         &mut self,
         rt: &R,
@@ -114,7 +115,7 @@ impl Early {
         Ok(push_taken(&mut self.taken, Taken { path, bytes })?)
     }
 
-    /// What was read of a host file, the first that is still here.
+    /// Removes and returns the first unused contents of a host file that were read early.
     pub fn take(&mut self, path: &str) -> Option<Result<Vec<u8>, HostFault>>
         ensures none { first_at path.now self.old.taken.items ≡ None → (result ≡ None) × (self.new ≡ self.old) }
         ensures some { (place : ℕ) (one : Read) → first_at path.now self.old.taken.items ≡ Some place → slice_get self.old.taken.items place ≡ Some one → (result ≡ Some one.bytes) × (self.new.taken.items ≡ remove self.old.taken.items place) }
@@ -126,8 +127,8 @@ impl Early {
     }
 }
 
-/// How many bytes an archive may have where the files of a volume may have so many. A file has a header on the volume, and up to four blocks more in an
-/// archive.
+/// Returns how many bytes an archive may have if the files of a volume may have `room` bytes. A file has a header on the volume, and up to four
+/// blocks more in an archive.
 pub fn archive_room(room: Option<u64>) -> Option<u64>
     ensures { MatchOption room (result ≡ None) (λ bytes. IfSome result (λ most. bytes ≤ most)) }
 {
@@ -155,7 +156,7 @@ fn place_at(taken: &[Taken], path: &str) -> Option<usize>
     taken.iter().position(|one| one.path.as_str() == path)
 }
 
-/// The bytes of a host file, or of standard input, where there are no more than `most`.
+/// Returns the bytes of a host file, or of standard input, if there are no more than `most`.
 pub fn read_bytes<R: Files<File = File> + Input + AllocGlobal>(
     rt: &R,
     path: &str,
@@ -181,7 +182,7 @@ fn room_behind(room: u64, bytes: &Result<Vec<u8>, HostFault>) -> u64
     }
 }
 
-/// The words of a `put` that name host files: all but the last, where there are several.
+/// Returns the words of a `put` that name host files: all but the last, if there are several.
 pub fn hosts<'w, 'a>(words: &'w [&'a str]) -> &'w [&'a str]
     ensures { result.now ≡ hosts_among words.now }
 {

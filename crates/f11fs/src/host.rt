@@ -1,9 +1,9 @@
-//! What a run is given by its host: a clock, variables, files, streams and memory.
+//! The host services of a run: a clock, variables, files, streams and memory.
 use std::fs::File;
 use std::io::Input;
 use std::rt::{Clock, Env, Files};
 
-/// What a run that changes an image is given by its host.
+/// The host services of a run that changes an image.
 pub trait Host: Clock
     + Env
     + Files<File = File>

@@ -17,14 +17,14 @@ use thiserror::Error;
 /// Why something in a tree is not put.
 #[derive(Clone, Copy, Debug, PartialEq, Eq, Error)]
 enum TreeFault {
-    /// Its name is none on the volume.
+    /// Its name is not valid on the volume.
     #[error("{0}")]
     Name(Why),
-    /// The name of a folder is none of a directory.
-    #[error("no name of a directory: a name has at most 9 of A to Z, 0 to 9, $, or is a group and a member, as 1,2")]
+    /// The name of a folder is not a valid name of a directory.
+    #[error("not a valid directory name: it has at most 9 of A to Z, 0 to 9, $, or is a group and a member, such as 1,2")]
     Folder,
-    /// It is no plain file and no folder.
-    #[error("no file and no folder")]
+    /// It is neither a plain file nor a folder.
+    #[error("neither a file nor a folder")]
     Other,
     /// It is a link into the tree.
     #[error("a link into its own tree")]
@@ -64,7 +64,7 @@ struct Told {
     status: Option<Status>,
 }
 
-/// What is put of a tree. All that is not is told: it refuses the command, or with `skip` it is left out where that may be.
+/// Returns the entries of a tree that are put. Each other entry is reported. It refuses the command, or with `skip` it is left out if it may be.
 #[tactic(auto, using(crate::proofs::TreesKept::left_more))]
 pub fn judge_tree<'a, R: Host>(
     rt: &R,
@@ -208,7 +208,7 @@ fn name_fault(alloc: Global, path: &str) -> Result<Option<Why>, AllocError>
     }
 }
 
-/// The path on the host of something in a tree.
+/// Returns the path on the host of an entry in a tree.
 pub fn host_path(alloc: Global, folder: &str, path: &str) -> Result<String, AllocError>
     ensures { IfOk result (λ text. IsHostPath folder.now path.now (string_bytes text)) }
 {

@@ -1,7 +1,7 @@
 //! Laws of the program.
 ghost use Rattle.f11fs.specs.Laws.{ShownIsRead};
 
-/// What `ls -l` prints of a protection is what `chmod` takes for it.
+/// The protection that `ls -l` prints is the protection that `chmod` accepts for it.
 pub fn shown_is_read()
     ensures { ShownIsRead }
 {}

@@ -1,4 +1,4 @@
-//! What is said of words that are not obeyed, of the command line or of a line in a file of commands.
+//! Messages for words that are not run, of the command line or of a line in a file of commands.
 ghost use Rattle.std.specs.Prelude.{◌≡◌};
 ghost use Rattle.f11fs.specs.Wrong.{IsSaidOf, said_of_line};
 ghost use Rattle.ods_shell.specs.declared.status.Status.{Status as Code};
@@ -7,7 +7,7 @@ use fs_host::Shown;
 use fs_words::{LineFault, WordsFault};
 use ods_shell::Status;
 
-/// Says what is wrong with words, with no control character.
+/// Prints what is wrong with words, without control characters, and returns the status.
 pub fn say_wrong<R: Eprint>(rt: &R, text: &str) -> Status
     ensures { result ≡ Code.Words }
 {
@@ -18,15 +18,15 @@ pub fn say_wrong<R: Eprint>(rt: &R, text: &str) -> Status
     Status::Words
 }
 
-/// Says that memory ran out.
+/// Prints that the allocator refused memory, and returns the status.
 pub fn say_no_memory<R: Eprint>(rt: &R) -> Status
     ensures { result ≡ Code.Host }
 {
-    let _ = eprintln!(rt; "f11fs: no memory");
+    let _ = eprintln!(rt; "f11fs: out of memory");
     Status::Host
 }
 
-/// Says why a line of a file of commands has no words.
+/// Prints why a line of a file of commands has no words, and returns the status.
 pub fn say_bad_line<R: Eprint>(rt: &R, fault: LineFault) -> Status
     ensures { result ≡ said_of_line fault }
 {
@@ -36,7 +36,7 @@ pub fn say_bad_line<R: Eprint>(rt: &R, fault: LineFault) -> Status
     }
 }
 
-/// Says why words ask for nothing; or prints the help that they ask for.
+/// Prints why words request nothing, or the help that they request, and returns the status.
 pub fn say_bad_words<R: Print + Eprint>(rt: &R, fault: WordsFault) -> Status
     ensures { IsSaidOf fault result }
 {

@@ -1,4 +1,4 @@
-//! Files of commands that only look at a volume: they take no lock, and go on where a mount refuses the volume.
+//! Files of commands that only look at a volume: they take no lock, and go on if a mount refuses the volume.
 ghost use Rattle.std.specs.Prelude.{◌≡◌, ◌⊎◌, ℕ, List, false, true, IfErr, IfOk, IsTrue};
 ghost use Rattle.std.specs.{List.Contains, Str.Lines.lines};
 ghost use Rattle.fs_host.specs.Faults.{is_reason};
@@ -13,6 +13,7 @@ use crate::command_files::{NO_COMMAND, SAVED_BEFORE, as_outer, ends_run, write_p
 use crate::host::Host;
 use crate::lines::{say_bad_line, say_bad_words, say_wrong};
 use crate::orders::layers_of;
+use crate::version::VERSION;
 use fs_host::Collecting;
 use fs_reads::{Progress, Readable, Stop, check_image, info_image, obey, open_readable, say_end};
 use fs_words::{Action, LineFault, Words, WordsFault, line_words, parse_line};
@@ -20,7 +21,7 @@ use ods_shell::Status;
 use std::alloc::{AllocError, Global};
 use std::cell::RefCell;
 
-/// Whether these lines only look at the volume of an image, whether a mount takes it or not.
+/// Returns whether these lines only look at the volume of an image. A mount may refuse the volume.
 pub fn only_look<'a>(alloc: Global, image: &'a str, text: &str) -> Result<bool, AllocError>
     ensures { IfOk result (λ looks. looks ≡ false → (line : List ℕ) × Contains (lines text.now) line × WantsMounted image.entry line) }
 {
@@ -41,7 +42,7 @@ fn want_mounted(alloc: Global, image: &str, line: &str) -> Result<bool, AllocErr
         Err(LineFault::Open) => return Ok(false),
         Err(LineFault::NoMemory) => return Err(AllocError),
     };
-    match parse_line(alloc, image, words.as_slice()) {
+    match parse_line(alloc, image, words.as_slice(), VERSION) {
         Ok(Some(own)) => Ok(is_for_mounted(&own.action)),
         Err(WordsFault::NoMemory) => Err(AllocError),
         Ok(None) | Err(_) => Ok(false),
@@ -55,7 +56,7 @@ fn is_for_mounted(action: &Action<'_>) -> bool
     matches!(action, Action::Change(_) | Action::Df)
 }
 
-/// Obeys lines that only look at a volume, and prints what they show. A refusal ends the run, unless it is to go on.
+/// Runs lines that only look at a volume, and prints their output. A refusal ends the run, unless `keep_going`.
 pub fn look_all<'a, R: Host>(
     rt: &R,
     words: &Words<'a>,
@@ -96,7 +97,7 @@ fn look_line<R: Host>(rt: &R, volume: &Readable, outer: &Words<'_>, line: &str) 
         Ok(words) => words,
         Err(fault) => return say_bad_line(rt, fault),
     };
-    match parse_line(rt.alloc(), outer.image, words.as_slice()) {
+    match parse_line(rt.alloc(), outer.image, words.as_slice(), VERSION) {
         Ok(Some(own)) => look_words(rt, volume, outer, own),
         Ok(None) => Status::Done,
         Err(fault) => say_bad_words(rt, fault),

@@ -1,5 +1,5 @@
-//! `f11fs`: looks at RSX-11 volumes, structure level 1, gets files out of them and changes them. What a path finds and what is printed is settled by
-//! `ods_shell`, what a change does by `ods_upkeep`; here are the files of the host, the streams and the exit status.
+//! `f11fs`: looks at RSX-11 volumes, structure level 1, extracts files and changes them. `ods_shell` determines what a path finds and what is
+//! printed, and `ods_upkeep` what a change does. This crate has the files of the host, the streams and the exit status.
 #![tactic(auto)]
 
 ghost use Rattle.std.specs.Prelude.{◌≡◌, ◌≤◌, IfSome};
@@ -27,6 +27,7 @@ mod repair_lines;
 mod repairing;
 mod telling;
 mod untarring;
+mod version;
 
 use commands::{Seen, run_command};
 use fs_host::hold_streams;
@@ -37,6 +38,7 @@ use ods_shell::Status;
 use std::io::IsTerminal;
 use std::process::ExitCode;
 use std::{env, io};
+use version::VERSION;
 
 fn main(rt: HostRuntime) -> ExitCode {
     // They live until `main` returns, so that no file that is opened is a stream.
@@ -65,7 +67,7 @@ fn run<R: Host>(rt: &R, seen: Seen) -> Status {
     let Ok(words) = args.skip(1).collect::<Vec<String>>(rt.alloc()) else {
         return say_no_memory(rt);
     };
-    match parse_words(rt.alloc(), words.as_slice()) {
+    match parse_words(rt.alloc(), words.as_slice(), VERSION) {
         Ok(found) => run_command(rt, &found, seen),
         Err(fault) => say_bad_words(rt, fault),
     }
@@ -80,10 +82,10 @@ fn say_no_text<R: Host>(rt: &R) -> Status
 {
     match spoiled_word(rt) {
         Some(number) => {
-            let _ = eprintln!(rt; "error: word {number} is no UTF-8 text");
+            let _ = eprintln!(rt; "error: word {number} is not UTF-8 text");
             Status::Words
         }
-        None => say_wrong(rt, "error: a word is no UTF-8 text"),
+        None => say_wrong(rt, "error: a word is not UTF-8 text"),
     }
 }
 

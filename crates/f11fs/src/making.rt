@@ -22,7 +22,7 @@ use std::fs;
 /// The label of a new volume where none is said.
 const LABEL: &str = "NEWVOLUME";
 
-/// `init`: an image that is not there before. One of a floppy in physical order has just the blocks of that.
+/// Creates an image that does not exist before (`init`). A floppy in physical order has exactly the blocks of that floppy.
 pub fn init_image<'a, R: Host>(
     rt: &R,
     words: &Words<'a>,

@@ -1,4 +1,4 @@
-//! What `repair` makes of the blocks of an image: each kind that is asked for, one after another, with a line for each thing that is done.
+//! The repairs of `repair` on the blocks of an image: each requested kind, in order, with a line for each action.
 ghost use Rattle.std.specs.Prelude.{◌≡◌, ◌≢◌, ◌⊎◌, ◌++◌, ◌∷◌, [], ℕ, IfOk, IfSome, MatchOption, OnOk, true};
 ghost use Rattle.std.specs.List.{All, Contains};
 ghost use Rattle.ods_mount.specs.declared.fault.MountFault.TheVariants.{DuplicateName};
@@ -30,7 +30,7 @@ use std::alloc::{AllocError, Global};
 /// In at most so many directories a run renumbers names: each takes a pass over the image.
 const MOST_DOUBLES: usize = 100;
 
-/// What is asked of a repair: of the image at this path these kinds, lost files into this directory, and the time that a new directory gets.
+/// The requested repairs: the path of the image, the kinds of repair, the directory for lost files, and the time of a new directory.
 #[derive(Clone, Copy)]
 pub struct Wishes<'a> {
     pub path: &'a str,
@@ -39,7 +39,7 @@ pub struct Wishes<'a> {
     pub stamp: Stamp,
 }
 
-/// The image with the repairs made that are asked for.
+/// Returns the image with the requested repairs, and adds to the report. A sound volume is required only for the kinds `names`, `lost` and `free`.
 pub fn mend<'a>(
     alloc: Global,
     image: Image,
@@ -143,7 +143,7 @@ fn mend_double<'a>(
     renumber_each(alloc, image, &layout, &doubled, report)
 }
 
-/// The end of a repair of an image without a layout, of which a mount answers this.
+/// Returns the end of a repair of an image without a layout. `answer` is the fault that a mount reports, or None if out of memory.
 pub(crate) fn unread<'a>(path: &'a str, answer: Option<MountFault>) -> Stop<'a>
     ensures { MatchOption answer (result ≡ End.NoMemory) (λ fault. IsNotLaidOut path.entry fault result) }
 {
@@ -419,7 +419,12 @@ fn directory_of<'a>(alloc: Global, filing: &Filing, path: &'a str) -> Result<Fil
     };
     match directory_in(&found) {
         Some(dir) => Ok(dir),
-        None => Err(stop_about(alloc, path, "lost files go to one directory", Status::Words)),
+        None => Err(stop_about(
+            alloc,
+            path,
+            "--into needs exactly one directory",
+            Status::Words,
+        )),
     }
 }
 

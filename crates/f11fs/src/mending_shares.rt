@@ -1,4 +1,4 @@
-//! What `repair share` makes of the blocks of an image: runs of files that share blocks with files before them get blocks of their own.
+//! The repairs of `repair share` on the blocks of an image: the runs of a file that share blocks with earlier files get blocks of their own.
 ghost use Rattle.std.specs.Prelude.{◌≡◌, ◌≢◌, ◌⊎◌, ◌++◌, ◌∷◌, [], ℕ, IfOk, MatchBool, MatchOption, OnOk, take, true};
 ghost use Rattle.std.specs.List.{All, Contains};
 ghost use Rattle.ods_mount.specs.Faults.{HasBadIndex};
@@ -20,7 +20,7 @@ use std::alloc::{AllocError, Global};
 /// Of at most so many files a run moves blocks: each takes a pass over the image.
 const MOST_FILES: usize = 100;
 
-/// The image with blocks of their own for runs with blocks that are held twice, where that is asked for.
+/// Returns the image in which runs with blocks in use twice have blocks of their own, if this repair is requested.
 pub fn mend_share<'a>(
     alloc: Global,
     image: Image,

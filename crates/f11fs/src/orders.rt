@@ -1,4 +1,4 @@
-//! In which order the words of a run have the sectors of an image.
+//! The order of the sectors of an image, as the words of a run specify it.
 ghost use Rattle.std.specs.Prelude.{◌≡◌};
 ghost use Rattle.f11fs.specs.Orders.{layers_said, order_said};
 
@@ -6,7 +6,7 @@ use fs_host::Layers;
 use fs_words::Layering;
 use ods_order::Order;
 
-/// How an image is read: in the order that is said, or else in the one that is found.
+/// Returns how an image is read: in the specified order, otherwise in the detected one.
 pub fn layers_of(said: Option<Layering>) -> Layers
     ensures { result ≡ layers_said said }
 {
@@ -17,7 +17,7 @@ pub fn layers_of(said: Option<Layering>) -> Layers
     }
 }
 
-/// The order of a floppy that is said.
+/// Returns the specified order of a floppy.
 pub fn floppy_order(said: Option<Layering>) -> Option<Order>
     ensures { result ≡ order_said said }
 {

@@ -18,7 +18,7 @@ use std::fs;
 use std::fs::File;
 use std::rt::Files;
 
-/// `put`: with two words or more the last is the path on the volume.
+/// Runs `put`: with two words or more, the last is the path on the volume.
 pub fn put<'a, R: Host>(
     rt: &R,
     filing: &mut Filing,
@@ -102,7 +102,7 @@ fn path_among<'a>(words: &[&'a str]) -> Option<&'a str>
     }
 }
 
-/// The form that the words say.
+/// Returns the form that the words specify.
 pub(crate) fn form_of(how: &PutWords<'_>) -> PutForm
     ensures { result ≡ form_said how.now }
 {
@@ -117,7 +117,7 @@ pub(crate) fn form_of(how: &PutWords<'_>) -> PutForm
     }
 }
 
-/// Where the blocks of new files stand, where the words say it.
+/// Returns where the blocks of new files are allocated, if the words specify it.
 pub(crate) fn placing_of(how: &PutWords<'_>) -> Option<Placing>
     ensures { result ≡ placing_said how.now }
 {
@@ -127,7 +127,7 @@ pub(crate) fn placing_of(how: &PutWords<'_>) -> Option<Placing>
     }
 }
 
-/// Where the blocks of files stand that are to be in one piece, or not.
+/// Returns where the blocks of files are allocated that must be in one piece, or need not.
 pub(crate) fn placing_for(contiguous: bool) -> Placing
     ensures { result ≡ placing_by contiguous }
 {
@@ -178,7 +178,7 @@ fn last_part(path: &str) -> &str
     }
 }
 
-/// The bytes of a host file, at most as many as there is room for on the volume. No form of a file has fewer bytes than the host file.
+/// Returns the bytes of a host file, at most the bytes that the volume has room for. No form of a file has fewer bytes than the host file.
 pub(crate) fn host_bytes<'a, R: Files<File = File> + AllocGlobal>(
     rt: &R,
     path: &'a str,
@@ -198,7 +198,7 @@ pub(crate) fn host_bytes<'a, R: Files<File = File> + AllocGlobal>(
     }
 }
 
-/// What was read early of a host file, or else what is read now.
+/// Returns the contents of a host file that were read early, or otherwise reads them now.
 pub fn taken_or_read<R: Files<File = File> + AllocGlobal>(
     rt: &R,
     path: &str,

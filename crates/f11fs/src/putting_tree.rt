@@ -1,4 +1,4 @@
-//! `put -r`: all that is in a folder of the host and below it, put into a directory of a volume.
+//! `put -r`: the contents of a folder of the host and below it, put into a directory of a volume.
 ghost use Rattle.std.specs.Prelude.{◌≡◌, ◌≤◌, ◌⊎◌, ℕ, is_some, IfErr, IfOk, OnOk, vec_len};
 ghost use Rattle.ods_upkeep.specs.TreePut.{IsFolderPut};
 ghost use Rattle.f11fs.specs.{Changed.IsRefusal, Changed.PutsBelow, TreePut.AreEntriesPut, TreePut.AreTreeWords, TreePut.IsEntryPut, TreePut.IsFilePut, TreePut.IsTreePut, TreePut.tree_form as form_for_tree};
@@ -26,7 +26,7 @@ use std::fs;
 use std::fs::{File, Metadata};
 use std::rt::Files;
 
-/// `put`: host files one by one; with `-r` all that is in a folder.
+/// Runs `put`: host files one by one, or with `-r` everything in a folder.
 pub fn put_files<'a, R: Host>(
     rt: &R,
     filing: &mut Filing,
@@ -84,7 +84,7 @@ fn tree_words<'a>(alloc: Global, words: &[&'a str]) -> Result<(&'a str, &'a str)
         [folder] => Ok((*folder, "[0,0]")),
         [folder, to] => Ok((*folder, *to)),
         [_, other, ..] => {
-            let why = "one folder is wanted: -r puts all that is in it and below it";
+            let why = "-r needs exactly one folder: it copies all files and folders below it";
             Err(stop_about(alloc, *other, why, Status::Words))
         }
         [] => Err(Stop::Lines(String::new(alloc), Status::Words)),

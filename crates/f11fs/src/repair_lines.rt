@@ -1,4 +1,4 @@
-//! What `repair` tells: a line for each thing that is done, and one for each thing that is not.
+//! The lines that `repair` prints: one for each action, and one for each thing that is not repaired.
 ghost use Rattle.std.specs.Prelude.{◌≡◌, ◌+◌, ◌<◌, ◌≤◌, ◌==◌, if◌then◌else◌, OnOk, false, length, string_bytes, true};
 ghost use Rattle.fs_reads.specs.Shown.{Extends};
 ghost use Rattle.f11fs.specs.Mended.{is_left_by};
@@ -10,7 +10,7 @@ use ods_repair::{LostFile, RepairFault, Unshared};
 use std::alloc::{AllocError, Global};
 use thiserror::Error;
 
-/// What a repair leaves as it is: all of its kind, or one directory or file.
+/// Something that a repair leaves unchanged: everything of its kind, or one directory or file.
 #[derive(Clone, Copy, Debug, PartialEq, Eq, Error)]
 pub enum Part {
     /// The blocks that `used` marks.
@@ -19,15 +19,15 @@ pub enum Part {
     /// The blocks that `free` marks.
     #[error("free")]
     Free,
-    /// The directory with this file number, whose names `double` makes two.
+    /// The directory with this file number, in which `double` renumbers one of two entries with one name and version.
     #[error("double: directory {0}")]
     Directory(u16),
-    /// The file with this number, to whose runs `share` gives blocks of their own.
+    /// The file with this number, whose runs `share` moves to blocks of their own.
     #[error("share: file {0}")]
     File(u16),
 }
 
-/// What repairs did, a line for each thing, and whether something stays that was to be repaired.
+/// The lines for the repairs that were made, and whether anything to repair is left.
 #[derive(Drop)]
 pub struct Report {
     pub text: String,
@@ -35,7 +35,7 @@ pub struct Report {
 }
 
 impl Report {
-    /// Nothing is done yet.
+    /// Returns a report without lines.
     pub fn new(alloc: Global) -> Report
         ensures { result.is_left ≡ false }
     {
@@ -45,7 +45,7 @@ impl Report {
         }
     }
 
-    /// Tells that names of this directory that were there twice have other versions.
+    /// Reports that names which were twice in this directory have other versions.
     pub fn tell_double(&mut self, directory: u16) -> Result<(), AllocError>
         ensures more { OnOk result (Extends (string_bytes self.old.text) (string_bytes self.new.text)) }
         ensures left { self.new.is_left ≡ self.old.is_left }
@@ -56,17 +56,17 @@ impl Report {
         )
     }
 
-    /// Tells of a part that another run of the repair reaches.
+    /// Reports a part that a further run of the repair handles.
     pub fn tell_later(&mut self, alloc: Global, part: Part) -> Result<(), AllocError>
         ensures more { OnOk result (Extends (string_bytes self.old.text) (string_bytes self.new.text)) }
         ensures left { self.new.is_left ≡ true }
     {
         self.is_left = true;
         let said = format!(in alloc; "{part}")?;
-        writeln!(self.text, "{said}: not done in this run; run it once more")
+        writeln!(self.text, "{said}: not done in this run; run repair again")
     }
 
-    /// Tells that so many faults are not looked at in this run, where there are some.
+    /// Reports how many faults are not looked at in this run, if any.
     pub fn tell_more(&mut self, more: u64) -> Result<(), AllocError>
         ensures more { OnOk result (Extends (string_bytes self.old.text) (string_bytes self.new.text)) }
         ensures left { self.new.is_left ≡ (if more == 0 then self.old.is_left else true) }
@@ -77,11 +77,11 @@ impl Report {
         self.is_left = true;
         writeln!(
             self.text,
-            "double: the image has {more} more faults than this run looks at; run it once more"
+            "double: the image has {more} more faults than one run repairs; run repair again"
         )
     }
 
-    /// Tells how many runs of a file have blocks of their own, and how many are left.
+    /// Reports how many runs of a file have blocks of their own, and how many runs or blocks found none.
     pub fn tell_shared(&mut self, file: u16, told: &Unshared) -> Result<(), AllocError>
         ensures more { OnOk result (Extends (string_bytes self.old.text) (string_bytes self.new.text)) }
         ensures left { self.new.is_left ≡ (if told.now.left == 0 then self.old.is_left else true) }
@@ -90,17 +90,17 @@ impl Report {
         if left == 0 {
             return writeln!(
                 self.text,
-                "share: file {file}: {moved} runs have blocks of their own"
+                "share: file {file}: {moved} runs moved to free blocks"
             );
         }
         self.is_left = true;
         writeln!(
             self.text,
-            "share: file {file}: {moved} runs have blocks of their own, and {left} runs or blocks find no free ones"
+            "share: file {file}: {moved} runs moved to free blocks; {left} runs or blocks stay shared"
         )
     }
 
-    /// Tells that the index is bad, so that no file has blocks of its own.
+    /// Reports that the index is bad, so that no file gets blocks of its own.
     pub fn tell_bad_index(&mut self) -> Result<(), AllocError>
         ensures more { OnOk result (Extends (string_bytes self.old.text) (string_bytes self.new.text)) }
         ensures left { self.new.is_left ≡ true }
@@ -109,7 +109,7 @@ impl Report {
         writeln!(self.text, "share: not done: the index is bad")
     }
 
-    /// Tells that the image has more faults than a run looks at.
+    /// Reports that the image has more faults than a run looks at.
     pub fn tell_more_shared(&mut self) -> Result<(), AllocError>
         ensures more { OnOk result (Extends (string_bytes self.old.text) (string_bytes self.new.text)) }
         ensures left { self.new.is_left ≡ true }
@@ -117,11 +117,11 @@ impl Report {
         self.is_left = true;
         writeln!(
             self.text,
-            "share: not done: the image has more faults than a run looks at"
+            "share: not done: the image has more faults than one run repairs"
         )
     }
 
-    /// Tells of a part that is not repaired, and why.
+    /// Reports a part that is not repaired, and why.
     pub fn tell_left(
         &mut self,
         alloc: Global,
@@ -137,7 +137,7 @@ impl Report {
         writeln!(self.text, "{about}: not done: {said}")
     }
 
-    /// Tells that the repairs of a sound volume are not made, since the image is refused for this fault.
+    /// Reports that the repairs of a sound volume are not made, because the image is refused for this fault.
     pub fn tell_refused(&mut self, alloc: Global, why: &MountFault) -> Result<(), AllocError>
         ensures more { OnOk result (Extends (string_bytes self.old.text) (string_bytes self.new.text)) }
         ensures left { self.new.is_left ≡ true }
@@ -150,7 +150,7 @@ impl Report {
         )
     }
 
-    /// Tells of lost files that have no name, and stay lost.
+    /// Reports lost files without a name, which stay lost.
     pub fn tell_nameless(&mut self, files: &[FileId]) -> Result<(), AllocError>
         ensures more { OnOk result (Extends (string_bytes self.old.text) (string_bytes self.new.text)) }
         ensures left { self.new.is_left ≡ is_left_by self.old.is_left files.now }
@@ -162,7 +162,7 @@ impl Report {
     }
 }
 
-/// Appends a line for each run of these blocks, ascending, which were marked as free and are used.
+/// Appends a line for each run of these ascending blocks, which were marked as free and are used.
 #[tactic(auto, using(fs_reads::proofs::Growing::extends_on, fs_reads::proofs::Growing::extends_same))]
 pub fn push_used(text: &mut String, blocks: &[u32]) -> Result<(), AllocError>
     ensures { OnOk result (Extends (string_bytes text.old) (string_bytes text.new)) }
@@ -210,7 +210,7 @@ fn push_finding(
     writeln!(text, "{kind}: {said}")
 }
 
-/// Appends a line for each lost file that is entered in the directory of this path.
+/// Appends a line for each lost file that is entered in the directory at this path.
 #[tactic(auto, using(fs_reads::proofs::Growing::extends_on, fs_reads::proofs::Growing::extends_same))]
 pub fn push_lost(text: &mut String, found: &[LostFile], path: &str) -> Result<(), AllocError>
     ensures { OnOk result (Extends (string_bytes text.old) (string_bytes text.new)) }

@@ -1,19 +1,22 @@
-//! `repair`: mends what is wrong with an image, also with one that a mount refuses, and saves what comes of it.
+//! `repair`: repairs an image, also one that a mount refuses, and saves the result.
 ghost use Rattle.std.specs.Prelude.{◌≡◌, ◌⊎◌, IfOk, if◌then◌else◌};
 ghost use Rattle.ods_shell.specs.declared.status.Status.{Status as Code};
+ghost use Rattle.f11fs.specs.Saved.{EndsSaved};
 
-use crate::changing::{asker_of, lock_image, save_image, status_of};
+use crate::changing::{Finished, asker_of, lock_image, save_image, status_of};
 use crate::host::Host;
 use crate::mending::{Wishes, mend};
 use crate::repair_lines::Report;
-use fs_reads::{Stop, send};
+use fs_host::Locked;
+use fs_reads::{Stop, send, stop_at_own_output};
 use fs_words::{Repairs, Words};
+use ods_base::Image;
 use ods_shell::Status;
 
 /// The directory of lost files where none is said.
 const LOST: &str = "[1,3]";
 
-/// Makes the repairs that are asked for, and saves the image that comes of them. What was done is told when it is saved; with `-n` nothing is saved.
+/// Makes the requested repairs, and saves the resulting image. The lines are printed after it is saved. With `-n` nothing is saved.
 pub fn repair_image<'a, R: Host>(
     rt: &R,
     words: &Words<'a>,
@@ -22,6 +25,7 @@ pub fn repair_image<'a, R: Host>(
 ) -> Result<Status, Stop<'a>>
     ensures { IfOk result (λ s. (s ≡ Code.Done) ⊎ ((s ≡ Code.Found) ⊎ (s ≡ Code.Host))) }
 {
+    stop_at_own_output(rt, words.image)?;
     let (mut locked, image) = lock_image(rt, words)?;
     let asker = asker_of(rt, words)?;
     let wishes = Wishes {
@@ -32,13 +36,37 @@ pub fn repair_image<'a, R: Host>(
     };
     let mut report = Report::new(rt.alloc());
     let image = mend(rt.alloc(), image, &wishes, &mut report)?;
-    let saved = if words.saving.only_tells {
-        Status::Done
-    } else {
-        status_of(save_image(rt, words, &mut locked, &image)?)
-    };
-    send(rt, report.text.as_str())?;
-    Ok(saved.or(status_left(&report)))
+    let finished = save_mended(rt, words, &mut locked, &image)?;
+    match send(rt, report.text.as_str()) {
+        Ok(_) => Ok(status_of(finished).or(status_left(&report))),
+        Err(stop) => Err(unsent(finished, stop)),
+    }
+}
+
+/// Saves the image that comes of the repairs; with `-n` nothing is saved.
+fn save_mended<'a, R: Host>(
+    rt: &R,
+    words: &Words<'a>,
+    locked: &mut Locked,
+    image: &Image,
+) -> Result<Finished, Stop<'a>>
+    ensures { IfOk result EndsSaved }
+{
+    if words.saving.only_tells {
+        return Ok(Finished::Told(Status::Done));
+    }
+    match save_image(rt, words, locked, image) {
+        Ok(finished) => Ok(finished),
+        Err(stop) => Err(stop),
+    }
+}
+
+/// The end of repairs whose lines cannot be printed: it says so if the image is saved.
+fn unsent<'a>(finished: Finished, stop: Stop<'a>) -> Stop<'a> {
+    match (finished, stop) {
+        (Finished::Saved(_), Stop::Unwritten(why)) => Stop::SavedUnwritten(why),
+        (_, stop) => stop,
+    }
 }
 
 /// The status of repairs: something is found where something stays that was to be repaired.

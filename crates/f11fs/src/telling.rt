@@ -1,4 +1,4 @@
-//! What a change makes of a volume: a line for each path that comes, goes or changes, and for each file without a path.
+//! The effect of a change on a volume: a line for each path that is added, removed or changed, and for each file without a path.
 ghost use Rattle.std.specs.Prelude.{◌≡◌, ◌≢◌, ◌↔◌, ◌⊎◌, ◌<◌, ℕ, List, Option, false, true, IsTrue, IfOk, IfSome, OnOk, Some, length, replicate, set, slice_get, slice_index_or, string_bytes};
 ghost use Rattle.std.specs.List.{range_with_len};
 ghost use Rattle.std.specs.Option.{option_copied};
@@ -65,8 +65,8 @@ fn text_of_id(alloc: Global, file: FileId) -> Result<String, AllocError>
     format!(in alloc; "#{number},{sequence}")
 }
 
-/// The text of a plan: a line, or an object, for each path of the volumes that is in one alone, or whose file differs; and for each file
-/// without a path. The last is of the label, where that differs.
+/// Returns the text of a plan: a line, or an object, for each path that is in only one of the volumes, or whose file differs; and for each file
+/// without a path. The last line is about the label, if it differs.
 pub fn plan_text<'a>(
     alloc: Global,
     before: &Mounted,

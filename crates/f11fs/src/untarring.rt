@@ -1,6 +1,6 @@
 //! `untar`: the files of an archive of the host, put into a volume.
 ghost use Rattle.std.specs.Prelude.{◌≡◌, ◌*◌, ◌≤◌, false, is_some, length, not, IfErr, IfOk, OnOk, slice_get};
-ghost use Rattle.f11fs.specs.{Changed.IsRefusal, Dated.IsTimeOf, Unpacked.ArePutFrom, Unpacked.AreUntarred, Unpacked.IsPut, Unpacked.archive_among, Unpacked.directory_among, Unpacked.placing_told};
+ghost use Rattle.f11fs.specs.{Changed.IsRefusal, Unpacked.ArePutFrom, Unpacked.AreUntarred, Unpacked.IsMemberTime, Unpacked.IsPut, Unpacked.archive_among, Unpacked.directory_among, Unpacked.placing_told};
 
 use crate::changing::stop_failed;
 use crate::dating::time_at;
@@ -22,7 +22,7 @@ use std::str;
 /// The bit of UC.CON among the characteristics of the user.
 const CONTIGUOUS: u8 = 128;
 
-/// `untar`: the first word is the archive, or `-`, and the second a directory of the volume.
+/// Runs `untar`: the first word is the archive, or `-`, and the second a directory of the volume.
 pub fn untar<'a, R: Host>(
     rt: &R,
     filing: &mut Filing,
@@ -57,22 +57,25 @@ pub fn untar<'a, R: Host>(
 /// Which times files get.
 #[derive(Drop)]
 struct Times {
-    /// The time of the run, or the one that is said.
+    /// The specified time, or else the time of the run.
     run: Stamp,
-    /// The zone by which the times of members are local ones, where no time is said.
+    /// The zone that turns the times of members into local times, if no time is specified.
     zone: Option<HostZone>,
 }
 
 impl Times {
-    /// The time of a file whose member has this time, in seconds since 1970.
-    fn of(&self, second: u64) -> Stamp
-        ensures { IsTimeOf (not (is_some self.now.zone)) self.now.run second result }
+    /// Returns the time of a file by the time of its member, in seconds since 1970; if the member has none, the time of the run.
+    fn of(&self, time: Option<u64>) -> Stamp
+        ensures { IsMemberTime (not (is_some self.now.zone)) self.now.run time result }
     {
-        time_at(&self.zone, second, self.run)
+        match time {
+            Some(second) => time_at(&self.zone, second, self.run),
+            None => self.run,
+        }
     }
 }
 
-/// The archive that the words name: the first one, or standard input.
+/// Returns the archive that the words name: the first word, or standard input.
 pub fn archive_among<'a>(words: &[&'a str]) -> &'a str
     ensures { result.now ≡ archive_among words.now }
 {
@@ -130,7 +133,7 @@ fn put_one<'a>(
         return Err(stop_about(
             alloc,
             "an archive",
-            "the path of a member is no text",
+            "the path of a member is not UTF-8 text",
             Status::Refused,
         ));
     };

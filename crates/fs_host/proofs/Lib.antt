@@ -5,6 +5,7 @@ mod Finding
 mod MayEnd
 mod HiddenNames
 mod HolderTexts
+mod ProcCuts
 mod Failed
 mod Storing
 mod Ordered

@@ -1,11 +1,12 @@
--- A reader that is compared with bytes that are wanted.
+-- A reader that is compared with expected bytes.
 use Rattle.std.specs.Prelude.{◌≡◌, ◌==◌, ◌⊎◌, ⊤, ℕ, Bool, IsTrue, Option, Some, None, List, [], ◌++◌, replicate}
 
--- The wanted bytes are all bytes of a file; or, where it may lack zeros at its end, these and zeros behind them.
+-- The expected bytes are all bytes of a file; or, if it may lack zeros at its end, these with zeros after them.
 abbrev pub HasAll : Bool → List ℕ → List ℕ → Type 0
 HasAll ends_in_zeros all wanted = (wanted ≡ all) ⊎ (IsTrue ends_in_zeros × ((n : ℕ) × (wanted ≡ all ++ replicate n 0)))
 
--- A reader had `old` and has `new` left, where these are known: it gave the wanted bytes, or it is at its end, and zeros are wanted behind all that it gave.
+-- A reader had `old` left and has `new` left, if these are known. It returned the expected bytes, or it is at its end, and zeros are expected after
+-- all returned bytes.
 abbrev pub Gives : Bool → Option (List ℕ) → Option (List ℕ) → List ℕ → Type 0
 Gives ends_in_zeros None new wanted = ⊤
 Gives ends_in_zeros (Some all) None wanted = ⊥

@@ -1,4 +1,4 @@
--- The volume that is found in a file of the host, and what is said of one that is longer or shorter than its volume.
+-- The volume in a host file, and the remark on a file that is longer or shorter than its volume.
 use Rattle.std.specs.Prelude.{◌≡◌, ◌≢◌, ℕ, ◌*◌, ◌/◌, ◌%◌, ◌^◌, ◌<◌, ◌≤◌, List, [], length, Option, Some, None, ◌⊎◌}
 use Rattle.ods_base.specs.declared.faults.ImageError.{ImageError}
 use Rattle.ods_base.specs.declared.faults.ImageError.TheVariants.{ReadFailed}
@@ -9,7 +9,7 @@ use Rattle.ods_container.specs.declared.footer.Footer.TheVariants.{Simh as Foote
 use Rattle.fs_host.specs.declared.containers.Extent.{Extent}
 use Rattle.fs_host.specs.declared.containers.Extent.TheVariants.{Longer, Simh, Vhd, Shorter}
 
--- The remark on a file of n bytes whose volume has S blocks, with these bytes behind it. There is none where the volume fills the file.
+-- The remark on a file of n bytes whose volume has S blocks, with these bytes after it. There is none if the volume fills the file.
 abbrev pub IsRemark : ℕ → ℕ → List ℕ → Option Extent → Type 0
 IsRemark n S behind None = (512 * S ≤ n) × (behind ≡ [])
 IsRemark n S behind (Some (Shorter blocks all)) = (n < 512 * S) × (blocks ≡ n / 512) × (all ≡ S)
@@ -17,7 +17,7 @@ IsRemark n S behind (Some (Simh count)) = (512 * S ≤ n) × (behind ≢ []) × 
 IsRemark n S behind (Some (Vhd count)) = (512 * S ≤ n) × (behind ≢ []) × (count ≡ length behind) × BeginsAs behind FooterVhd
 IsRemark n S behind (Some (Longer count)) = (512 * S ≤ n) × (behind ≢ []) × (count ≡ length behind) × ((footer : Footer) → ¬ BeginsAs behind footer)
 
--- the remark says that the file is shorter than its volume
+-- the remark states that the file is shorter than its volume
 abbrev pub SaysShort : Extent → Type 0
 SaysShort (Shorter blocks all) = Unit {0}
 SaysShort (Simh count) = ⊥
@@ -28,10 +28,10 @@ SaysShort (Longer count) = ⊥
 abbrev pub ReadsWhole : {F : Type 0} → (F → Option (List ℕ)) → (F → Option ℕ) → (F → Option (List ℕ)) → Type 0
 ReadsWhole {F} remaining position bytes = (file : F) (all : List ℕ) → position file ≡ Some 0 → bytes file ≡ Some all → remaining file ≡ Some all
 
--- these bytes are the blocks of an image as they stand
+-- these bytes are the blocks of an image in their order
 abbrev pub AreBlocks : List ℕ → Type 0
 AreBlocks bytes = (length bytes ≤ 2 ^ 29) × (length bytes % 512 ≡ 0)
 
--- why no volume is found in these bytes: a read or a seek failed, or there is none in them
+-- the reason why no volume is found in these bytes: a read or a seek failed, or they contain none
 abbrev pub IsNotFound : List ℕ → Option ℕ → ImageError → Type 0
 IsNotFound bytes given fault = (fault ≡ ReadFailed) ⊎ IsNotContained bytes given fault

@@ -1,4 +1,4 @@
--- A process that has a file open.
+-- A process or a loop device that has a file open.
 use Rattle.std.specs.Prelude.{◌≢◌, ℕ, ◌<◌, ◌++◌, if◌then◌else◌, List, length, take, codes, slice_index}
 use Rattle.std.specs.Fmt.{decimal}
 use Rattle.std.specs.Str.{is_utf8}
@@ -13,7 +13,11 @@ LacksLine text = (i : ℕ) → i < length text → slice_index text i ≢ 10
 abbrev pub name_held : Holder → List ℕ
 name_held holder = take holder.length holder.name
 
--- what is said of the process: its number, and its name where that is a text
+-- the text for a process: its number, and its name if it is a text
+abbrev pub shown_process : Holder → List ℕ
+shown_process holder =
+    if is_utf8 (name_held holder) then codes "process " ++ (decimal holder.number ++ (codes " (" ++ (shown_text (name_held holder) ++ codes ")"))) else codes "process " ++ decimal holder.number
+
+-- the text for a process or a loop device
 abbrev pub shown_holder : Holder → List ℕ
-shown_holder holder =
-    if is_utf8 (name_held holder) then codes "process " ++ (decimal holder.process ++ (codes " (" ++ (shown_text (name_held holder) ++ codes ")"))) else codes "process " ++ decimal holder.process
+shown_holder holder = if holder.is_device then codes "device loop" ++ decimal holder.number else shown_process holder

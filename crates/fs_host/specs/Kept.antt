@@ -1,10 +1,10 @@
--- What a locked image keeps of its file.
+-- The facts of its file that a locked image keeps.
 use Rattle.std.specs.Prelude.{◌≡◌, ℕ, Bool, List, Option, string_bytes, is_some}
 use Rattle.ods_order.specs.declared.order.Order.{Order}
 use Rattle.fs_host.specs.declared.containers.Extent.{Extent}
 use Rattle.fs_host.specs.declared.saving.Locked.{Locked}
 
--- the bytes behind the volume that was read
+-- the bytes after the volume that was read
 abbrev pub bytes_kept : Locked → List ℕ
 bytes_kept locked = locked.behind.items
 
@@ -16,7 +16,7 @@ remark_kept locked = locked.extent
 abbrev pub floppy_kept : Locked → Option (Order × List ℕ)
 floppy_kept locked = locked.floppy
 
--- the image is such a floppy
+-- the image is a floppy in physical order
 abbrev pub is_floppy : Locked → Bool
 is_floppy locked = is_some (floppy_kept locked)
 
@@ -32,11 +32,15 @@ force_kept locked = locked.force
 abbrev pub path_kept : Locked → List ℕ
 path_kept locked = string_bytes locked.path
 
--- the size that it had when it was locked
+-- its size when it was locked
 abbrev pub size_kept : Locked → ℕ
 size_kept locked = locked.mark.size
 
--- all stays but the place in the file, and the volume on a floppy
+-- how many processes may have it open that were not looked at
+abbrev pub unseen_kept : Locked → ℕ
+unseen_kept locked = locked.unseen
+
+-- everything is unchanged except the position in the file, and the volume on a floppy
 abbrev pub KeepsAll : Locked → Locked → Type 0
 KeepsAll old new =
     (bytes_kept new ≡ bytes_kept old) × (remark_kept new ≡ remark_kept old) × (mode_kept new ≡ mode_kept old)

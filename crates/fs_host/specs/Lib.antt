@@ -4,6 +4,7 @@ pub mod Names
 pub mod Noted
 pub mod Texts
 pub mod Holders
+pub mod ProcTexts
 pub mod Found
 pub mod Layers
 pub mod Times

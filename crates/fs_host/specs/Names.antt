@@ -1,4 +1,4 @@
--- Paths of files of the host: their parts, where links lead, and hidden names.
+-- Paths of host files: their parts, the targets of links, and hidden names.
 use Rattle.std.specs.Prelude.{◌≡◌, ◌≢◌, ℕ, zero, suc, ◌+◌, ◌-◌, ◌*◌, ◌%◌, ◌^◌, ◌<◌, ◌≤◌, ◌⊎◌, List, [], ◌∷◌, ◌++◌, length, take, fold, slice_index, codes}
 use Rattle.std.specs.Fmt.{decimal}
 use Rattle.std.specs.Str.{IsCharBoundary}
@@ -7,23 +7,25 @@ use Rattle.std.specs.Str.{IsCharBoundary}
 abbrev pub LacksSlash : List ℕ → Type 0
 LacksSlash text = (i : ℕ) → i < length text → slice_index text i ≢ 47
 
--- The name is what stands behind the last slash of a path, and the folder what stands before it. It is "/" where nothing does, and "." where there is no slash.
+-- The name is the text after the last slash of a path, and the folder is the text before it. The folder is "/" if this text is empty, and "." if
+-- there is no slash.
 pub record AreParts (path folder name : List ℕ) : Type 0 where
   pub name_alone : LacksSlash name
   pub joined : (path ≡ name × (folder ≡ codes ".")) ⊎ ((path ≡ 47 ∷ name) × (folder ≡ codes "/")) ⊎ ((folder ≢ []) × (path ≡ folder ++ 47 ∷ name))
 
--- a link of this text begins at the root
+-- the target text of a link begins at the root
 abbrev pub IsFromRoot : List ℕ → Type 0
 IsFromRoot link = slice_index link 0 ≡ 47
 
--- Where a link at this path leads: to its own text where that begins at the root or the path has no folder, else to that text in the folder of the path.
+-- The target of a link at this path: its own text if it begins at the root or the path has no folder, otherwise that text in the folder of the
+-- path.
 abbrev pub LeadsTo : List ℕ → List ℕ → List ℕ → Type 0
 LeadsTo path link text =
     (IsFromRoot link × (text ≡ link))
     ⊎ (LacksSlash path × (text ≡ link))
     ⊎ (¬ IsFromRoot link × ((folder name : List ℕ) × LacksSlash name × (path ≡ folder ++ 47 ∷ name) × (text ≡ folder ++ 47 ∷ link)))
 
--- so many links, each at the path that the one before leads to, lead from the first path to the last
+-- `count` links reach the last path from the first, each at the path that the one before reaches
 abbrev pub Leads : ℕ → List ℕ → List ℕ → Type 0
 Leads zero path end = path ≡ end
 Leads (suc count) path end = (at link : List ℕ) × Leads count path at × LeadsTo at link end
@@ -36,17 +38,17 @@ IsReached path end = (count : ℕ) × (count < 40) × Leads count path end
 abbrev pub number_in : List ℕ → ℕ
 number_in name = fold (λ number byte. (number * 257 + byte) % 2 ^ 64) 0 name
 
--- the front is what is left of a name that is cut to less than so many bytes: all of its letters that end before that place
+-- the front is the rest of a name that is cut to at most `most` bytes: all of its letters that end before that index
 abbrev pub IsFront : List ℕ → ℕ → List ℕ → Type 0
 IsFront name most front = (k : ℕ) × (k ≤ most) × (front ≡ take k name) × ((i : ℕ) → k < i → i < most → ¬ IsCharBoundary name i)
 
--- what stands for a name that has so much room: the name, or where that is longer its front and its number
+-- the text for a name in `room` bytes: the name, or its front and its number if it is longer
 abbrev pub StandsFor : List ℕ → ℕ → List ℕ → Type 0
 StandsFor name room text =
     ((length name ≤ room) × (text ≡ name))
     ⊎ ((room < length name) × ((front : List ℕ) × IsFront name (room - 21) front × (text ≡ front ++ 46 ∷ decimal (number_in name))))
 
--- The text is the path of the hidden file beside this one, for a use of this word. Its name has 255 bytes at most.
+-- The text is the path of the hidden file next to this one, for a use of this word. Its name has at most 255 bytes.
 pub record IsHidden (path word text : List ℕ) : Type 0 where
   pub folder : List ℕ
   pub name : List ℕ

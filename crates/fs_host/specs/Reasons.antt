@@ -1,4 +1,4 @@
--- Which reason an error of the host has: by its kind, or by its number where the kind does not tell.
+-- The reason of an error of the host: by its kind, or by its number if the kind does not determine it.
 use Rattle.std.specs.Prelude.{◌≡◌, ℤ, pos, negsuc, ◌==◌, ◌⊎◌, Option, Some, None, unwrap_or, if◌then◌else◌, ◌||◌}
 use Rattle.std.specs.IoError.{error_kind, raw_os_error}
 use Rattle.std.specs.declared.io.Error.{Error}
@@ -9,7 +9,7 @@ use Rattle.std.specs.declared.io.ErrorKind.TheVariants.{Other as KindOther}
 use Rattle.fs_host.specs.declared.host_fault.HostFault.{HostFault}
 use Rattle.fs_host.specs.declared.host_fault.HostFault.TheVariants.{NotThere, Denied, IsFolder, NotFolder, IsThere, NoRoom, NoMemory, TooLarge, ReadOnly, TooManyOpen, BadName, Links, Busy, Closed, NoReader, Device, Unsupported, Failed, Unknown}
 
--- the reason that the kind tells
+-- the reason for the kind
 abbrev pub reason_of_kind : ErrorKind → Option HostFault
 reason_of_kind NotFound = Some NotThere
 reason_of_kind PermissionDenied = Some Denied
@@ -29,7 +29,7 @@ reason_of_kind BrokenPipe = Some NoReader
 reason_of_kind KindUnsupported = Some Unsupported
 reason_of_kind _ = None
 
--- the reason that a number of Linux tells: 5 is EIO, 9 EBADF, 23 ENFILE, 24 EMFILE
+-- the reason for a Linux error number: 5 is EIO, 9 EBADF, 23 ENFILE, 24 EMFILE
 abbrev pub reason_of_number : Option ℤ → HostFault
 reason_of_number None = Unknown
 reason_of_number (Some (negsuc n)) = Failed (negsuc n)
@@ -40,6 +40,6 @@ reason_of_number (Some (pos n)) =
 abbrev pub reason_of : Error → HostFault
 reason_of error = unwrap_or (reason_of_kind (error_kind error)) (reason_of_number (raw_os_error error))
 
--- what is printed is not kept: memory is refused, or it is being read
+-- the output is not kept: memory is refused, or it is being read
 abbrev pub IsNotKept : Error → Type 0
 IsNotKept error = (error_kind error ≡ OutOfMemory) ⊎ (error_kind error ≡ KindOther)

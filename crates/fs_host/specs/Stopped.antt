@@ -1,10 +1,10 @@
--- How a saving that is stopped is told.
+-- The report of a stopped save.
 use Rattle.fs_saving.specs.declared.unsaved.Unsaved.{Unsaved}
 use Rattle.fs_saving.specs.declared.unsaved.Unsaved.TheVariants as unsaved
 use Rattle.fs_host.specs.declared.faults.SaveFault.{SaveFault}
 use Rattle.fs_host.specs.declared.faults.SaveFault.TheVariants.{Differs}
 
--- the fault that is told: that of the host, or that the bytes which were read back are not those that were written
+-- the reported fault: the fault of the host, or that the bytes that were read back differ from the written ones
 abbrev pub fault_told : Unsaved SaveFault → SaveFault
 fault_told (unsaved.Make fault) = fault
 fault_told (unsaved.Write fault) = fault

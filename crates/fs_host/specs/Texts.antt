@@ -1,4 +1,4 @@
--- What messages show of a name of the host.
+-- The printed form of a host name in messages.
 use Rattle.std.specs.Prelude.{ℕ, ◌-◌, ◌^◌, false, if◌then◌else◌, List, [], ◌∷◌, encode_utf8}
 use Rattle.std.specs.Char.{is_control}
 use Rattle.std.specs.Fmt.{digits, padded_integral, format_spec}
@@ -9,10 +9,10 @@ use Rattle.std.specs.Str.{chars}
 abbrev pub hex_digits : ℕ → List ℕ
 hex_digits n = padded_integral (format_spec 32 0 4 2 (2 ^ 64 - 1)) false [] (digits 16 false n)
 
--- a letter as it is shown: a control character as "\x" and its number to the base 16, any other as it is
+-- a letter in printed form: a control character as "\x" and its number to the base 16, any other unchanged
 abbrev pub shown_letter : ℕ → List ℕ
 shown_letter c = if is_control c then 92 ∷ 120 ∷ hex_digits c else encode_utf8 c
 
--- a text as it is shown
+-- a text in printed form
 abbrev pub shown_text : List ℕ → List ℕ
 shown_text text = flat_map shown_letter (chars text)

@@ -1,5 +1,5 @@
-//! A runtime for a command among others: what it prints is kept until the run's end, and its faults say the line where it stands.
-//! Most methods hand a call on. No contract of std says what these calls do, nor what a cell holds.
+//! A runtime for one command of several: its output is kept until the end of the run, and its faults state the line of the command.
+//! Most methods forward a call. No contract of std states what these calls do, nor what a cell holds.
 ghost use Rattle.std.specs.Prelude.{IfErr};
 ghost use Rattle.fs_host.specs.Reasons.{IsNotKept};
 
@@ -19,7 +19,7 @@ use std::time::Duration;
 #[derive(Clone, Copy)]
 pub struct Collecting<'a, R> {
     pub rt: &'a R,
-    /// What was printed.
+    /// The printed bytes.
     pub printed: &'a RefCell<Vec<u8>>,
     pub file: &'a str,
     pub line: usize,

@@ -1,4 +1,4 @@
-//! Whether a file of the host has the bytes of a volume, with others behind them.
+//! The comparison of a host file with the bytes of a volume and the bytes after it.
 ghost use Rattle.std.specs.Prelude.{◌≡◌, ◌+◌, ◌%◌, ◌<◌, ◌≤◌, ◌++◌, ℕ, List, IfSome, IsSome, IsTrue, true, false, length, take};
 ghost use Rattle.std.specs.List.{list_all};
 ghost use Rattle.std.specs.Io.KnownBytes.{Consumes, IsAtEnd};
@@ -12,7 +12,7 @@ use std::io::{Read, Seek, SeekFrom};
 /// How many bytes are compared at once: some whole blocks.
 const PIECE: usize = 65_536;
 
-/// Whether the file has the bytes of this image, with these behind them, and no more; where `ends_in_zeros` it may lack zeros at the end.
+/// Returns whether the file has the bytes of this image, then `behind`, and nothing more. With `ends_in_zeros` the file may lack zeros at the end.
 pub fn has_bytes<F: Read + Seek>(
     file: &mut F,
     image: &Image,
@@ -29,7 +29,7 @@ pub fn has_bytes<F: Read + Seek>(
     }
 }
 
-/// Whether the file has these bytes, and no more.
+/// Returns whether the file has exactly these bytes.
 pub fn has_only<F: Read + Seek>(file: &mut F, bytes: &[u8]) -> bool
     // Of a file whose bytes are known.
     ensures { ReadsWhole F.remaining F.stream_position F.stream_bytes → IsSome (F.stream_position file.old)
@@ -156,7 +156,7 @@ fn may_lack(bytes: &[u8], ends_in_zeros: bool) -> bool
     are_zeros(bytes)
 }
 
-/// Whether each byte is zero.
+/// Returns whether each byte is zero.
 pub fn are_zeros(bytes: &[u8]) -> bool
     ensures { result ≡ list_all is_zero bytes.now }
 {

@@ -1,4 +1,4 @@
-//! Host files that hold a volume: how they are read, and the remark on one that is longer or shorter than its volume.
+//! Host files that hold a volume: how they are read, and the remark on a file that is longer or shorter than its volume.
 ghost use Rattle.std.specs.Prelude.{◌≡◌, ◌↔◌, Err, ◌⊎◌, ℕ, List, Some, IfOk, IfErr, IfSome, OnOk, MatchResult, IsTrue, length};
 ghost use Rattle.std.specs.Io.KnownBytes.{Keeps};
 ghost use Rattle.ods_container.specs.Container.{IsContained};
@@ -10,8 +10,8 @@ use std::alloc::Global;
 use std::io::{Read, Seek, SeekFrom};
 use thiserror::Error;
 
-/// The volume in a file, of the size in blocks that is given, where one is. A file that is too large by its size is not read, and only one that
-/// is no image as it stands is read twice.
+/// Reads the volume in a file, with the size in blocks if `given` is a size. A file whose size is too large is not read. Only a file whose bytes
+/// are not directly a valid image is read twice.
 pub fn volume_in<F: Read + Seek>(
     alloc: Global,
     file: &mut F,
@@ -62,7 +62,7 @@ fn volume_in_no_image<F: Read + Seek>(
     }
 }
 
-/// How many bytes a file has, which is at its start then; 0 for a stream.
+/// Returns the number of bytes of a file, and seeks to its start. Returns 0 for a stream.
 pub fn end_of<F: Seek>(file: &mut F) -> Result<u64, ImageError>
     ensures start { F.stream_position file.old ≡ Some 0 → OnOk result (F.stream_position file.new ≡ Some 0) }
     ensures bytes { Keeps (F.stream_bytes file.old) (F.stream_bytes file.new) }
@@ -78,32 +78,32 @@ pub fn end_of<F: Seek>(file: &mut F) -> Result<u64, ImageError>
     }
 }
 
-/// What is to be said of a file that is longer or shorter than its volume.
+/// A remark on a file that is longer or shorter than its volume.
 #[derive(Clone, Copy, Debug, PartialEq, Eq, Error)]
 pub enum Extent {
-    /// So many bytes stand behind the volume.
-    #[error("{0} bytes behind the volume")]
+    /// The number of bytes after the volume.
+    #[error("{0} bytes after the volume")]
     Longer(usize),
-    /// So many bytes stand behind the volume, and begin as a footer of simh.
-    #[error("{0} bytes behind the volume (a simh footer)")]
+    /// The number of bytes after the volume, which begin like a simh footer.
+    #[error("{0} bytes after the volume (a simh footer)")]
     Simh(usize),
-    /// So many bytes stand behind the volume, and begin as a footer of a VHD.
-    #[error("{0} bytes behind the volume (a VHD footer)")]
+    /// The number of bytes after the volume, which begin like a VHD footer.
+    #[error("{0} bytes after the volume (a VHD footer)")]
     Vhd(usize),
-    /// The file has so many whole blocks, and the volume so many.
+    /// The number of whole blocks of the file, and the number of blocks of the volume.
     #[error("the image ends at block {0} of {1}")]
-    Shorter(u64, u32),
+    Shorter(u32, u32),
 }
 
 impl Extent {
-    /// What is to be said of this one; nothing where the volume fills its file.
+    /// Returns the remark on this file; `None` if the volume fills its file.
     pub fn of(contained: &Contained) -> Option<Extent>
         ensures { IsRemark contained.now.length (length contained.now.image) contained.now.behind.items result }
     {
         let blocks = contained.image.len();
         let behind = contained.behind.len();
         if contained.length < 512 * blocks as u64 {
-            return Some(Extent::Shorter(contained.length / 512, blocks));
+            return Some(Extent::Shorter((contained.length / 512) as u32, blocks));
         }
         if behind == 0 {
             return None;
@@ -115,7 +115,7 @@ impl Extent {
         })
     }
 
-    /// Whether the file is shorter than its volume.
+    /// Returns whether the file is shorter than its volume.
     pub fn is_short(&self) -> bool
         ensures { IsTrue result ↔ SaysShort self.now }
     {

@@ -1,4 +1,4 @@
-//! The bytes of a floppy in physical order, with the volume in its places.
+//! The bytes of a floppy in physical order, with the volume in its sectors.
 ghost use Rattle.std.specs.Prelude.{◌≡◌, ◌+◌, ◌*◌, ◌++◌, [], MatchBool, IfOk, IfErr, IfSome, IsTrue, IsFalse, is_some, length, replicate};
 ghost use Rattle.ods_base.specs.Image.{image_bytes};
 ghost use Rattle.ods_order.specs.Order.{block_count, container_size};
@@ -36,7 +36,7 @@ impl Model for Floppy {
 }
 
 impl Floppy {
-    /// A floppy of zeros.
+    /// Returns a floppy of zeros.
     pub fn empty(alloc: Global, order: Order) -> Result<Floppy, AllocError>
         ensures { IfOk result (λ floppy. floppy ≡ (order, replicate (container_size order) 0)) }
     {
@@ -44,7 +44,7 @@ impl Floppy {
         Ok(Floppy { order, bytes })
     }
 
-    /// The floppy of these bytes.
+    /// Returns the floppy with these bytes.
     pub(crate) fn of(order: Order, bytes: Vec<u8>) -> Floppy
         requires { length bytes.items ≡ container_size order }
         ensures { result ≡ (order, bytes.items) }
@@ -52,14 +52,14 @@ impl Floppy {
         Floppy { order, bytes }
     }
 
-    /// Its bytes.
+    /// Returns its bytes.
     pub(crate) fn bytes(&self) -> &[u8]
         ensures { result.now ≡ self.now.1 }
     {
         self.bytes.as_slice()
     }
 
-    /// The sectors of the volume become those of this one, with these bytes behind it; whether they fit. Where they do not, nothing changes.
+    /// Writes this volume, followed by `behind`, into the sectors of the volume. Returns whether they fit. If they do not fit, nothing changes.
     pub fn lay(&mut self, image: &Image, behind: &[u8]) -> bool
         ensures order { self.new.0 ≡ self.old.0 }
         ensures laid { IsTrue result → IsLaidOut self.old.0 self.old.1 (image_bytes image.now ++ behind.now) self.new.1 }
@@ -86,7 +86,7 @@ fn fits(order: Order, blocks: u32, behind: usize) -> bool
     size - blocks == behind
 }
 
-/// Writes a floppy to a file that is not there before, as [`write_new`] says.
+/// Writes a floppy to a file that does not exist before, in the same way as [`write_new`].
 pub fn write_floppy<R: Files<File = File> + AllocGlobal>(
     rt: &R,
     path: &str,
@@ -102,8 +102,8 @@ pub fn write_floppy<R: Files<File = File> + AllocGlobal>(
     }
 }
 
-/// Writes a new volume to a file that is not there before, as [`write_new`] says: as it stands, or as a floppy of this order whose other bytes
-/// are zeros.
+/// Writes a new volume to a file that does not exist before, in the same way as [`write_new`]. The file has the blocks in their order, or is a
+/// floppy of this order whose other bytes are zeros.
 #[tactic(auto, using(crate::proofs::Storing::errs_copying))]
 pub fn write_ordered<R: Files<File = File> + AllocGlobal>(
     rt: &R,
@@ -127,7 +127,7 @@ pub fn write_ordered<R: Files<File = File> + AllocGlobal>(
     }
 }
 
-/// An image with no blocks, before bytes that are no blocks.
+/// Returns an image without blocks, for bytes that are not blocks.
 pub(crate) fn no_blocks(alloc: Global) -> Result<Image, AllocError>
     ensures { IfOk result (λ none. image_bytes none ≡ []) }
 {

@@ -1,5 +1,5 @@
-//! New files of the host under a hidden name: they are made, filled and read back there, take their name or are taken away.
-//! No contract can say what a host file takes or gives.
+//! New files of the host under a hidden name. They are created, filled and read back there, and then receive their name or are removed.
+//! No contract can state what a host file receives or returns.
 ghost use Rattle.std.specs.Prelude.{◌≡◌, ◌↔◌, ◌⊎◌, IfOk, IfErr, IsTrue, string_bytes};
 ghost use Rattle.fs_host.specs.Faults.{is_reason, is_reason_but_there, may_end_beginning, may_end_naming, may_end_filling};
 ghost use Rattle.fs_host.specs.Making.{path_hidden};
@@ -22,8 +22,7 @@ use std::{fs, io};
 /// How often the hidden name is tried: another run may take it away, or leave it, meanwhile.
 const TRIES: u32 = 8;
 
-/// A new file under a hidden name. It is locked, so that a hidden file without a lock is known to be left by a run that was ended
-/// by force.
+/// A new file under a hidden name. It is locked. So a hidden file without a lock is known to be left by a run that was killed.
 #[derive(Drop)]
 pub struct HiddenFile {
     pub file: File,
@@ -31,7 +30,7 @@ pub struct HiddenFile {
 }
 
 impl HiddenFile {
-    /// An empty file under this hidden name. Nobody else reads it where a mode is said.
+    /// Creates an empty file under this hidden name. If a mode is given, nobody else can read the file.
     #[tactic(auto, using(crate::proofs::MayEnd::there_ends_beginning))]
     pub fn make<R: Files<File = File>>(
         rt: &R,
@@ -50,7 +49,7 @@ impl HiddenFile {
         Err(HostFault::Held)
     }
 
-    /// Writes an image, and these bytes behind it, behind what the file has. Where it `is_sparse` the file gets holes for pieces of zeros.
+    /// Appends an image, and then these bytes, to the file. With `is_sparse` the file has holes instead of pieces of zeros.
     pub fn write(&mut self, image: &Image, behind: &[u8], is_sparse: bool) -> Result<(), SaveFault>
         ensures stays { path_hidden self.new ≡ path_hidden self.old }
         ensures err { IfErr result (λ fault. IsTrue (may_end_filling fault)) }
@@ -62,7 +61,7 @@ impl HiddenFile {
         }
     }
 
-    /// Waits until all that was written is on the disk.
+    /// Waits until all written bytes are on the disk.
     #[tactic(auto, using(crate::proofs::MayEnd::reason_given))]
     pub fn sync(&self) -> Result<(), SaveFault>
         ensures { IfErr result (λ fault. IsTrue (may_end_filling fault)) }
@@ -73,15 +72,16 @@ impl HiddenFile {
         }
     }
 
-    /// Reads the file back: whether it has the bytes of this image, with these behind them, and no more.
+    /// Reads the file back. Returns whether it has the bytes of this image, then `behind`, and nothing more.
     pub fn holds(&mut self, image: &Image, behind: &[u8]) -> bool
         ensures { path_hidden self.new ≡ path_hidden self.old }
     {
         has_bytes(&mut self.file, image, behind, false)
     }
 
-    /// Gives the file this mode, this time of its last change and this name. The time is in seconds since 1970. A mode or a time that is not said stays.
-    /// With `replaces` a file that has the name by then goes. Without it that file stays, and the new one keeps its hidden name.
+    /// Gives the file this mode, this time of its last change and this name. The time is in seconds since 1970. A mode or a time that is not given
+    /// is unchanged. With `replaces`, a file that has the name by then is deleted. Otherwise that file stays, and the new one keeps its hidden
+    /// name.
     #[tactic(auto, using(crate::proofs::MayEnd::error_ends_naming, crate::proofs::MayEnd::changed_ends_naming, crate::proofs::MayEnd::reasons_end_naming))]
     pub fn take_name<R: Files<File = File>>(
         &mut self,
@@ -110,8 +110,8 @@ impl HiddenFile {
         }
     }
 
-    /// Removes the hidden name, and with it a file that has no other; whether the file has it no more. A file that another program put
-    /// there stays. No contract of std says what the host does.
+    /// Removes the hidden name, and the file if it has no other name. Returns whether the file no longer has the hidden name. A file that another
+    /// program put there stays. No contract of std states what the host does.
     pub fn take_away<R: Files<File = File>>(&self, rt: &R) -> bool {
         let is_gone = match (
             fs::symlink_metadata(rt, self.path.as_str()),

@@ -1,4 +1,4 @@
-//! Files that are not given their zeros: whole pieces of zeros are passed over, and the file has holes there, which read as zeros.
+//! Files that do not receive their zeros. Whole pieces of zeros are skipped, and the file has holes there, which read as zeros.
 ghost use Rattle.std.specs.Prelude.{◌≡◌, ◌++◌, true, IfOk, IfErr, IsTrue};
 ghost use Rattle.std.specs.Io.{WritesAtMost};
 ghost use Rattle.std.specs.Io.KnownBytes.{Appends, Keeps, WriteAppends};
@@ -22,7 +22,7 @@ pub trait Holed: Write {
     ghost use Rattle.std.specs.Prelude.{◌≡◌, ◌<◌, ◌^◌, ℕ, Option, None, MatchResult, replicate};
     ghost use Rattle.std.specs.Io.KnownBytes.{Appends, Keeps};
 
-    /// How many bytes were written, and not passed over, where that is known.
+    /// The number of bytes that were written and not skipped, if it is known.
     ghost written: { Self → Option ℕ } = { λ _. None };
 
     /// Passes over so many bytes, which read as zeros once the file ends behind them.
@@ -95,7 +95,7 @@ fn write_run<F: Holed>(file: &mut F, bytes: &[u8]) -> io::Result<usize>
     file.write(&bytes[..count])
 }
 
-/// Writes an image to a file, and these bytes behind it, and passes over whole pieces of zeros.
+/// Writes an image to a file, and then these bytes, and skips whole pieces of zeros.
 #[tactic(auto, using(crate::proofs::MayEnd::reason_given))]
 pub fn write_holed<F: Holed + Drop>(file: F, image: &Image, behind: &[u8]) -> Result<F, HostFault>
     ensures ok { IfOk result (λ written. Appends (F.contents file) (F.contents written) (image_bytes image.now ++ behind.now)) }

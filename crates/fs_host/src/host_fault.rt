@@ -1,4 +1,4 @@
-//! Why the host does not do what it is asked for, in words.
+//! The reason why the host does not do what is requested, in words.
 ghost use Rattle.std.specs.Prelude.{◌≡◌};
 ghost use Rattle.fs_host.specs.Reasons.{reason_of, reason_of_number};
 ghost use Rattle.fs_host.specs.declared.host_fault.HostFault.TheVariants.{NoMemory};
@@ -8,41 +8,41 @@ use std::io;
 use std::io::ErrorKind;
 use thiserror::Error;
 
-/// Why the host does not do what it is asked for.
+/// The reason why the host does not do what is requested.
 #[derive(Clone, Copy, Debug, PartialEq, Eq, Error)]
 pub enum HostFault {
     /// There is no such file.
-    #[error("not there")]
+    #[error("no such file or folder")]
     NotThere,
     /// The host denies permission.
     #[error("no permission")]
     Denied,
-    /// The path leads to a folder.
+    /// The path reaches a folder.
     #[error("it is a folder")]
     IsFolder,
-    /// A part of the path before the last is no folder.
-    #[error("a part of its path is no folder")]
+    /// A part of the path before the last is not a folder.
+    #[error("a part of its path is not a folder")]
     NotFolder,
-    /// The path leads to a file that is no plain one.
-    #[error("it is no plain file")]
+    /// The path reaches a file that is not a plain file.
+    #[error("it is not a regular file")]
     NotPlain,
-    /// A file of this name is there already.
-    #[error("it is there")]
+    /// A file with this name exists already.
+    #[error("it already exists")]
     IsThere,
     /// Another run has locked the hidden new file.
-    #[error("another program writes it")]
+    #[error("another program is writing to it")]
     Held,
     /// Another program replaced the file.
-    #[error("it was changed or replaced meanwhile")]
+    #[error("another program changed or replaced it meanwhile")]
     Changed,
     /// The file is written, and its hidden name could not be removed.
     #[error("it is written, but its second, hidden name could not be removed")]
     Left,
     /// The device or the quota is full.
-    #[error("no room")]
+    #[error("no space left")]
     NoRoom,
-    /// Memory was refused.
-    #[error("no memory")]
+    /// Out of memory.
+    #[error("out of memory")]
     NoMemory,
     /// The file is larger than the limit.
     #[error("it is too large")]
@@ -53,11 +53,11 @@ pub enum HostFault {
     /// The process or the host has too many files open.
     #[error("too many files are open")]
     TooManyOpen,
-    /// The host takes no file of this name.
-    #[error("its name is too long, or no name")]
+    /// The host accepts no file with this name.
+    #[error("its name is too long or not valid")]
     BadName,
-    /// Symbolic links lead round in a circle.
-    #[error("its symbolic links have no end")]
+    /// Symbolic links form a cycle.
+    #[error("its symbolic links form a loop")]
     Links,
     /// The file or device is in use.
     #[error("it is in use")]
@@ -74,16 +74,16 @@ pub enum HostFault {
     /// The file system does not support the call.
     #[error("the file system cannot do it")]
     Unsupported,
-    /// Another error of the system, by its number.
-    #[error("error {0} of the system")]
+    /// Another system error, by its number.
+    #[error("system error {0}")]
     Failed(i32),
     /// The host gives no reason.
-    #[error("the system does not say why")]
+    #[error("the system gives no reason")]
     Unknown,
 }
 
 impl HostFault {
-    /// The reason of an error.
+    /// Returns the reason of an error.
     pub fn of(error: &io::Error) -> HostFault
         ensures { result ≡ reason_of error.now }
     {

@@ -1,4 +1,5 @@
-//! A folder of the host with all that is in it and below it. No contract of std says what is in a folder: clauses say what is made of the names that are read.
+//! A folder of the host with everything in it and below it. No contract of std states the contents of a folder: clauses state the results for the
+//! names that are read.
 ghost use Rattle.std.specs.Prelude.{◌≡◌, ◌++◌, ◌∷◌, ◌↔◌, [], reverse, String as Text, IfErr, IfOk, IsTrue, OnOk, string_bytes};
 ghost use Rattle.std.specs.List.{All};
 ghost use Rattle.std.specs.declared.alloc.Global.{Global as HostMemory};
@@ -13,26 +14,26 @@ use std::fs;
 use std::fs::{File, Metadata};
 use std::rt::Files;
 
-/// What stands at a path of a tree.
+/// The kind of a file in a tree.
 #[derive(Clone, Copy, Debug, PartialEq, Eq)]
 pub enum TreeKind {
     /// A folder.
     Folder,
     /// A plain file.
     File,
-    /// Something else, as a device or a link to nothing.
+    /// Something else, such as a device or a link to nothing.
     Other,
-    /// A link to a folder that is of the tree, or that has the tree in it.
+    /// A link to a folder that belongs to the tree, or that contains the tree.
     OwnTree,
     /// A folder that cannot be read, for this reason.
     Unread(HostFault),
 }
 
-/// What stands in a tree, by its path in it. That of a folder ends with a slash, but for the tree itself, which has an empty path.
+/// An entry of a tree, with its path in it. The path of a folder ends with a slash, but the tree itself has an empty path.
 #[derive(Drop)]
 pub struct TreeEntry {
     pub path: String,
-    /// Where its own name begins, behind the path of its folder.
+    /// The index of its own name in the path, after the path of its folder.
     pub own: usize,
     pub kind: TreeKind,
 }
@@ -44,7 +45,8 @@ struct Pending {
     own: usize,
 }
 
-/// All that is in a folder and below it: first each folder itself, then what is in it, in the order of the names as bytes, and then the folders in it. Links are followed.
+/// Lists everything in a folder and below it: first each folder itself, then its contents in the order of the names as bytes, and then the folders
+/// in it. Follows links.
 pub fn list_tree<R: Files<File = File> + AllocGlobal + Clone + Drop>(
     rt: &R,
     root: &str,

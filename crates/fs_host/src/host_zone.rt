@@ -1,4 +1,4 @@
-//! The host's time zone, by which dates of files are read.
+//! The time zone of the host, by which dates of files are read.
 ghost use Rattle.std.specs.Prelude.{◌≡◌, ◌⊎◌, ◌<◌, ◌+◌, ◌≤◌, ◌↔◌, pos, int_div, is_some, IfSome, IsTrue};
 ghost use Rattle.fs_host.specs.Dates.{IsDated, IsSecondAt, IsSecondOf, full_year, two_at};
 ghost use Rattle.fs_host.specs.Times.{IsLocal, IsMonth, IsStampAt};
@@ -10,7 +10,7 @@ use jiff::tz::{SystemTimeZone, TimeZone, TimeZoneDatabase};
 use ods_request::Stamp;
 use std::rt::{Env, Files};
 
-/// The host's time zone: the one that `TZ` names, or else `/etc/localtime`; UTC where neither names one.
+/// The time zone of the host: the zone in `TZ`, otherwise `/etc/localtime`; UTC if neither names one.
 #[derive(Drop)]
 pub struct HostZone {
     system: Option<SystemTimeZone>,
@@ -18,7 +18,7 @@ pub struct HostZone {
 }
 
 impl HostZone {
-    /// The zone of the host. No contract can say what its variables and files give.
+    /// Reads the zone of the host. No contract can state what its variables and files return.
     pub fn read<R: Env + Files + AllocGlobal + Clone + Drop>(rt: &R) -> HostZone {
         let none = TimeZoneDatabase::new(rt.alloc());
         let Ok(system) = SystemTimeZone::read(rt) else {
@@ -46,7 +46,7 @@ impl HostZone {
         }
     }
 
-    /// The zone of the host, where it is wanted.
+    /// Reads the zone of the host, if it is needed.
     pub fn read_where<R: Env + Files + AllocGlobal + Clone + Drop>(
         rt: &R,
         is_wanted: bool,
@@ -60,8 +60,8 @@ impl HostZone {
         }
     }
 
-    /// The second since 1970 at which a clock in this zone shows a date of a header, its 13 bytes `01JAN80103000`. 0 where there is no such day or
-    /// time, or where it is before 1970.
+    /// Returns the second since 1970 at which a clock in this zone shows a date of a header, its 13 bytes `01JAN80103000`. Returns 0 if there is no
+    /// such day or time, or if it is before 1970.
     pub fn second_at(&self, date: &[u8; 13]) -> u32
         ensures { IsSecondAt date.now result }
     {
@@ -74,7 +74,7 @@ impl HostZone {
         }
     }
 
-    /// The stamp that a clock in this zone shows at a second since 1970. None where there is no such time.
+    /// Returns the stamp that a clock in this zone shows at a second since 1970. Returns `None` if there is no such time.
     pub fn stamp_at(&self, second: u32) -> Option<Stamp>
         ensures { IfSome result (IsStampAt second) }
     {
@@ -84,7 +84,7 @@ impl HostZone {
         stamp_of(self.local(instant))
     }
 
-    /// The time that a clock in this zone shows at an instant.
+    /// Returns the time that a clock in this zone shows at an instant.
     pub fn local(&self, instant: Timestamp) -> DateTime
         ensures { IsLocal instant result }
     {

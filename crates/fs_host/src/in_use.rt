@@ -1,12 +1,16 @@
-//! Which other process of the host has a file open, as far as `/proc` tells. No contract of std says what is read there.
+//! The processes of the host that have a file open, and the loop devices on it, as far as `/proc` and `/sys` report them. No contract of std states
+//! the bytes that are read there. No link of `/proc` is followed, since a file may be on a file system that does not respond.
 ghost use Rattle.std.specs.Prelude.{◌≡◌, ◌≤◌, Some, IfSome, take};
 ghost use Rattle.fs_host.specs.Holders.{LacksLine, name_held, shown_holder};
 
 use crate::holders::{Holder, NAME};
-use crate::marks::Mark;
+use crate::looking::{Look, Part, look_at};
+use crate::loop_devices::loop_over;
 use crate::shown::Shown;
+use crate::sought::Sought;
+use crate::watch::Watch;
 use std::fmt::{Display, Formatter};
-use std::fs::{File, Metadata};
+use std::fs::File;
 use std::io::Read;
 use std::rt::{Clock, Files};
 use std::time::Duration;
@@ -25,40 +29,54 @@ impl Display for Holder {
     ghost output = { λ holder. Some (shown_holder holder) };
 
     fn fmt<W: fmt::Write>(&self, f: &mut Formatter<W>) -> fmt::Result {
+        if self.is_device {
+            return write!(f, "device loop{}", self.number);
+        }
         match str::from_utf8(&self.name[..self.length]) {
-            Ok(name) => write!(f, "process {} ({})", self.process, Shown(name)),
-            Err(_) => write!(f, "process {}", self.process),
+            Ok(name) => write!(f, "process {} ({})", self.number, Shown(name)),
+            Err(_) => write!(f, "process {}", self.number),
         }
     }
 }
 
-/// A process other than this one that has the file open, and keeps it so for half a second: a reader, or a program that is just being
-/// started, has it only for a moment.
+/// Returns a process other than this one that has the file open, and keeps it open for half a second. A reader, or a program that just starts, has
+/// it open only for a moment. Or returns a loop device on the file.
 pub fn holder_of<R: Files<File = File> + Clock + AllocGlobal + Clone + Drop>(
     rt: &R,
-    file: &Metadata,
+    sought: &Sought,
+    watch: &mut Watch,
 ) -> Option<Holder>
     ensures { IfSome result (λ holder. LacksLine (name_held holder)) }
 {
+    if let Some(number) = loop_over(rt, sought) {
+        return Some(Holder {
+            number,
+            is_device: true,
+            name: [0; NAME],
+            length: 0,
+        });
+    }
     for _ in 0..TRIES {
-        let process = seen_holder(rt, file)?;
-        if keeps_open(rt, process, file) {
+        let (process, part) = seen_holder(rt, sought, watch)?;
+        if keeps_open(rt, process, part, sought, watch) {
             return Some(name_holder(rt, process));
         }
     }
     None
 }
 
-/// Whether this process still has the file open half a second later.
+/// Whether this process still has the file open half a second later, or when the time of the search is over.
 fn keeps_open<R: Files<File = File> + Clock + AllocGlobal + Clone + Drop>(
     rt: &R,
     process: u32,
-    file: &Metadata,
+    part: Part,
+    sought: &Sought,
+    watch: &mut Watch,
 ) -> bool {
     let mut pause = PAUSE;
     for _ in 0..LOOKS {
         rt.sleep(Duration::from_millis(pause));
-        if !has_open(rt, process, file) {
+        if look_at(rt, process, part, sought, watch) == Look::Free {
             return false;
         }
         pause = pause.saturating_mul(2);
@@ -66,68 +84,61 @@ fn keeps_open<R: Files<File = File> + Clock + AllocGlobal + Clone + Drop>(
     true
 }
 
-/// A process other than this one that has the file open now. What cannot be read is passed over.
-fn seen_holder<R: Files<File = File> + AllocGlobal + Clone + Drop>(
+/// A process other than this one that has the file open now, by a descriptor or else by a mapping.
+fn seen_holder<R: Files<File = File> + Clock + AllocGlobal + Clone + Drop>(
     rt: &R,
-    file: &Metadata,
+    sought: &Sought,
+    watch: &mut Watch,
+) -> Option<(u32, Part)> {
+    if let Some(process) = first_with(rt, Part::Descriptors, sought, watch) {
+        return Some((process, Part::Descriptors));
+    }
+    match first_with(rt, Part::Mappings, sought, watch) {
+        Some(process) => Some((process, Part::Mappings)),
+        None => None,
+    }
+}
+
+/// The first other process that has the file open in this part now. A process that cannot be looked at is counted.
+fn first_with<R: Files<File = File> + Clock + AllocGlobal + Clone + Drop>(
+    rt: &R,
+    part: Part,
+    sought: &Sought,
+    watch: &mut Watch,
 ) -> Option<u32> {
-    let Ok(own) = fs::read_link(rt, "/proc/self") else {
-        return None;
-    };
     let Ok(processes) = fs::read_dir(rt, "/proc") else {
         return None;
     };
+    watch.restart();
     for entry in processes {
         let Ok(entry) = entry else {
             continue;
         };
-        if entry.file_name() == own.as_str() {
+        if entry.file_name() == sought.own.as_str() {
             continue;
         }
         let Ok(process) = entry.file_name().parse::<u32>() else {
             continue;
         };
-        if has_open(rt, process, file) {
-            return Some(process);
+        match look_at(rt, process, part, sought, watch) {
+            Look::Open => return Some(process),
+            Look::Free => {}
+            Look::Unseen => watch.pass(),
         }
     }
     None
 }
 
-/// Whether this process has the file open.
-fn has_open<R: Files<File = File> + AllocGlobal + Clone + Drop>(
-    rt: &R,
-    process: u32,
-    file: &Metadata,
-) -> bool {
-    let Ok(folder) = format!(in rt.alloc(); "/proc/{process}/fd") else {
-        return false;
-    };
-    let Ok(opened) = fs::read_dir(rt, folder.as_str()) else {
-        return false;
-    };
-    for entry in opened {
-        let Ok(entry) = entry else {
-            continue;
-        };
-        if let Ok(found) = fs::metadata(rt, entry.path()) {
-            if Mark::of(&found).is_same_file(&Mark::of(file)) {
-                return true;
-            }
-        }
-    }
-    false
-}
-
 /// The process with its name, where that can be read.
 fn name_holder<R: Files<File = File> + AllocGlobal>(rt: &R, process: u32) -> Holder
-    ensures same { result.process ≡ process }
+    ensures same { result.number ≡ process }
     ensures line { LacksLine (name_held result) }
 {
     let mut name = [0; NAME];
     let length = name_of(rt, process, &mut name).unwrap_or(0);
     Holder {
-        process,
+        number: process,
+        is_device: false,
         name,
         length,
     }

@@ -1,4 +1,4 @@
-//! In which order the sectors of a volume are read from a file: as they stand, or as on the surface of a floppy.
+//! The order in which the sectors of a volume are read from a file: as stored, or as on the surface of a floppy.
 ghost use Rattle.std.specs.Prelude.{◌≡◌, ◌⊎◌, ℕ, List, Some, None, IfOk, IfErr, MatchBool, length};
 ghost use Rattle.ods_container.specs.Container.{IsNotContained};
 ghost use Rattle.ods_header.specs.Home.{HasNoHome};
@@ -18,21 +18,21 @@ use std::alloc::{AllocError, Global};
 use std::io::{Read, Seek};
 use thiserror::Error;
 
-/// In which order the sectors of a volume are read.
+/// The order in which the sectors of a volume are read.
 #[derive(Clone, Copy, Debug, PartialEq, Eq)]
 pub enum Layers {
-    /// In the one in which a home block is found.
+    /// The order in which a home block is found.
     Found,
-    /// As they stand.
+    /// The order in the file.
     Plain,
-    /// In the physical order of a floppy.
+    /// The physical order of a floppy.
     Physical(Order),
 }
 
-/// Why no volume is read from a file.
+/// The reason why no volume is read from a file.
 #[derive(Clone, Copy, Debug, PartialEq, Eq, Error)]
 pub enum ReadFault {
-    /// The file is not read, or its bytes are no image.
+    /// The file is not read, or its bytes are not a valid image.
     #[error("{0}")]
     Image(ImageError),
     /// The file has another size than a floppy of this order.
@@ -40,15 +40,15 @@ pub enum ReadFault {
     OtherSize(Order),
 }
 
-/// The volume in a file. The bytes of a floppy in physical order are kept, since the volume is written back to its places there.
+/// The volume in a file. The bytes of a floppy in physical order are kept, since the volume is written back to its sectors there.
 #[derive(Drop)]
 pub struct Layered {
     pub contained: Contained,
     pub floppy: Option<Floppy>,
 }
 
-/// The volume in a file, of the size in blocks that is given, where one is. Where no order is said, one is looked for in a file that is as
-/// long as a floppy.
+/// Reads the volume in a file, with the size in blocks if `given` is a size. `Layers::Found` looks for an order in a file that is as long as a
+/// floppy.
 #[tactic(auto, using(crate::proofs::Ordered::ok_told, crate::proofs::Ordered::err_told))]
 pub fn layered_in<F: Read + Seek>(
     alloc: Global,

@@ -1,6 +1,7 @@
-//! The host of `f11fs`: images that are locked, changed and saved whole, new files, the streams, the local time, and what commands print until a
-//! run's end. No contract can say what a host file or a stream gives or takes: clauses say what is made of values, and of the bytes of a reader or a
-//! writer that is known. `tests/fs_changes` and `tests/fs_faults` check the calls of the host on the built program.
+//! The host of `f11fs`: images that are locked, changed and saved as a whole, new files, and the streams. It also provides the local time, and
+//! keeps the output of commands until the end of a run. No contract can state what a host file or a stream returns or receives. Clauses state the
+//! results for values, and for the bytes of a known reader or writer. `tests/fs_changes` and `tests/fs_faults` check the calls of the host on the
+//! built program.
 #![tactic(auto)]
 
 mod collecting;
@@ -17,14 +18,19 @@ mod host_zone;
 mod in_use;
 mod layers;
 mod local_time;
+mod looking;
+mod loop_devices;
 mod marks;
 mod names;
 mod new_file;
 mod noting;
+mod proc_texts;
 mod reading;
 mod saving;
 mod shown;
+mod sought;
 mod streams;
+mod watch;
 mod whole_blocks;
 mod writing;
 

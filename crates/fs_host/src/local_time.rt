@@ -1,4 +1,4 @@
-//! The host's local time, as new files carry it.
+//! The local time of the host, as stored in new files.
 ghost use Rattle.std.specs.Prelude.{◌≡◌, IfSome};
 ghost use Rattle.fs_host.specs.Times.{IsMonth, IsStampOf, IsStampOfLocal, stamp_text};
 
@@ -8,8 +8,8 @@ use jiff::civil::DateTime;
 use ods_request::Stamp;
 use std::rt::{Clock, Env, Files};
 
-/// The stamp of now, by the zone that `TZ` names, or else `/etc/localtime`; by UTC where neither names one. None where the clock fails.
-/// No contract can say what the host's clock and files give.
+/// Returns the current stamp, by the zone in `TZ`, otherwise `/etc/localtime`; by UTC if neither names one. Returns `None` if the clock fails.
+/// No contract can state what the clock and files of the host return.
 pub fn stamp_of_now<R: Clock + Env + Files + AllocGlobal + Clone + Drop>(rt: &R) -> Option<Stamp>
     ensures { IfSome result IsStampOfLocal }
 {
@@ -19,7 +19,7 @@ pub fn stamp_of_now<R: Clock + Env + Files + AllocGlobal + Clone + Drop>(rt: &R)
     stamp_of(HostZone::read(rt).local(now))
 }
 
-/// The stamp of a time.
+/// Returns the stamp of a time.
 pub fn stamp_of(time: DateTime) -> Option<Stamp>
     ensures { IfSome result (IsStampOf time) }
 {

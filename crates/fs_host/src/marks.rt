@@ -1,11 +1,11 @@
-//! By what it is seen whether two files of the host are one, and whether one was written to.
+//! Marks that show whether two host files are the same, and whether a file was written to.
 ghost use Rattle.std.specs.Prelude.{◌≡◌, ◌↔◌, IsTrue};
 ghost use Rattle.std.specs.Fs.{metadata_len};
 
 use std::fs::Metadata;
 use std::os::unix::fs::MetadataExt;
 
-/// The numbers of a file that stay while nobody writes to it.
+/// The numbers of a file that are unchanged while nobody writes to it.
 #[derive(Clone, Copy, PartialEq, Eq)]
 pub struct Mark {
     pub device: u64,
@@ -16,7 +16,7 @@ pub struct Mark {
 }
 
 impl Mark {
-    /// No contract of std says what the host's numbers of a file are, but for its size.
+    /// Returns the mark of a file. No contract of std states the host's numbers of a file, except its size.
     pub fn of(file: &Metadata) -> Mark
         ensures { result.size ≡ metadata_len file.now }
     {
@@ -29,7 +29,7 @@ impl Mark {
         }
     }
 
-    /// Whether both are of one file, whatever its bytes.
+    /// Returns whether both marks belong to the same file, whatever its bytes.
     pub fn is_same_file(&self, other: &Mark) -> bool
         ensures { IsTrue result ↔ ((self.now.device ≡ other.now.device) × (self.now.node ≡ other.now.node)) }
     {

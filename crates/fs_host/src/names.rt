@@ -1,4 +1,4 @@
-//! Names of files of the host: where symbolic links lead, and the hidden names of files that are being made.
+//! Names of host files: the targets of symbolic links, and the hidden names of files that are being created.
 ghost use Rattle.std.specs.Prelude.{◌≡◌, ◌≤◌, IfOk, IfErr, IsTrue, string_bytes};
 ghost use Rattle.fs_host.specs.Faults.{is_reason};
 ghost use Rattle.fs_host.specs.Names.{AreParts, LeadsTo, IsReached, IsHidden, IsFront, number_in as number_of_name};
@@ -14,8 +14,8 @@ const LONGEST: usize = 255;
 /// So many symbolic links have no end.
 const MOST_LINKS: u32 = 40;
 
-/// The path whose last part is the file itself: where it is a symbolic link that is followed, as are those that come then. A file that is
-/// not there is an error.
+/// Returns the path whose last part is the file itself. Follows a symbolic link at the end, and the links after it. A file that does not exist is
+/// an error.
 pub fn follow_links<R: Files + AllocGlobal>(rt: &R, path: &str) -> Result<String, HostFault>
     ensures ok { IfOk result (λ end. IsReached path.now (string_bytes end)) }
     ensures err { IfErr result (λ fault. IsTrue (is_reason fault)) }
@@ -23,7 +23,7 @@ pub fn follow_links<R: Files + AllocGlobal>(rt: &R, path: &str) -> Result<String
     follow(rt, path, false)
 }
 
-/// The path to which symbolic links lead, whether something is there or not.
+/// Returns the path that symbolic links reach, whether a file exists there or not.
 pub fn end_of_links<R: Files + AllocGlobal>(rt: &R, path: &str) -> Result<String, HostFault>
     ensures ok { IfOk result (λ end. IsReached path.now (string_bytes end)) }
     ensures err { IfErr result (λ fault. IsTrue (is_reason fault)) }
@@ -64,7 +64,7 @@ fn from_folder(alloc: Global, path: &str, link: &str) -> Result<String, AllocErr
     }
 }
 
-/// The folder of a path, and the name in it.
+/// Returns the folder of a path, and the name in it.
 pub fn parts(path: &str) -> (&str, &str)
     ensures { AreParts path.now result.0.now result.1.now }
 {
@@ -80,7 +80,7 @@ pub fn parts(path: &str) -> (&str, &str)
     }
 }
 
-/// The path of the hidden file beside this one, for this use. A name that leaves no room is cut, and gets a number of its own.
+/// Returns the path of the hidden file next to this one, for this use. A name that is too long is cut, and receives a number of its own.
 pub fn hidden_name(alloc: Global, path: &str, word: &str) -> Result<String, AllocError>
     ensures { IfOk result (λ text. IsHidden path.now word.now (string_bytes text)) }
 {

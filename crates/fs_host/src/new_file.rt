@@ -1,4 +1,4 @@
-//! New files of the host: made under a hidden name beside their own, which they take when they are whole.
+//! New files of the host. They are created under a hidden name next to their own, and receive their own name when they are complete.
 ghost use Rattle.std.specs.Prelude.{◌≡◌, IfOk, IfErr, IsTrue, codes, string_bytes};
 ghost use Rattle.fs_host.specs.Faults.{may_end_path, may_end_beginning, may_end_finish};
 ghost use Rattle.fs_host.specs.Making.{file_made, path_made, hidden_made, mode_made};
@@ -11,19 +11,19 @@ use std::fs;
 use std::fs::File;
 use std::rt::Files;
 
-/// A new file that has not taken its name yet.
+/// A new file that does not have its name yet.
 #[derive(Drop)]
 pub struct NewFile {
     made: HiddenFile,
-    /// The path that it takes.
+    /// The path that it receives.
     path: String,
-    /// The mode that it gets with its name. Until then nobody else reads it where one is said.
+    /// The mode that it receives with its name. If a mode is given, nobody else can read the file until then.
     mode: Option<u32>,
 }
 
 impl NewFile {
-    /// An empty file beside this path, or beside the plain file that a symbolic link there leads to. What is there and no plain file
-    /// is refused, as `IsFolder` or `NotPlain`.
+    /// Creates an empty file next to this path, or next to the plain file that a symbolic link there reaches. If something other than a plain file
+    /// is there, the error is `IsFolder` or `NotPlain`.
     pub fn begin<R: Files<File = File> + AllocGlobal>(
         rt: &R,
         path: &str,
@@ -43,16 +43,16 @@ impl NewFile {
         })
     }
 
-    /// The file, at the place where it was left.
+    /// Returns the file, at its current position.
     pub fn file(&mut self) -> &mut File
         ensures { result.now ≡ file_made self.old }
     {
         &mut self.made.file
     }
 
-    /// Gives the file its mode, the time of its last change and its name. The time is in seconds since 1970; where none is said, the host's stays.
-    /// With `replaces` a file that has the name by then goes. Without it that file stays, and the new one is gone.
-    /// After any other failure too the new file is gone. After `Left` it has its name, and the hidden one beside it.
+    /// Gives the file its mode, the time of its last change and its name. The time is in seconds since 1970; if none is given, the time of the host
+    /// is unchanged. With `replaces`, a file that has the name by then is deleted. Otherwise that file stays, and the new one is removed.
+    /// After any other failure the new file is removed too. After `Left` it has its name, and the hidden name next to it.
     #[tactic(auto, using(crate::proofs::MayEnd::naming_ends_finish))]
     pub fn finish<R: Files<File = File>>(
         mut self,
@@ -79,21 +79,21 @@ impl NewFile {
         }
     }
 
-    /// Removes the hidden name, and with it a file that has no other; whether the file has it no more. A file that another program put
-    /// there stays. No contract of std says what the host does.
+    /// Removes the hidden name, and the file if it has no other name. Returns whether the file no longer has the hidden name. A file that another
+    /// program put there stays. No contract of std states what the host does.
     pub fn give_up<R: Files<File = File>>(self, rt: &R) -> bool {
         self.made.take_away(rt)
     }
 }
 
-/// The path that a new file takes, and the hidden one that it has until then.
+/// The path that a new file receives, and its hidden path until then.
 #[derive(Drop)]
 pub struct Paths {
     pub taken: String,
     pub hidden: String,
 }
 
-/// The paths of a new file for this path, or for the plain file that a symbolic link there leads to.
+/// Returns the paths of a new file for this path, or for the plain file that a symbolic link there reaches.
 #[tactic(auto, using(crate::proofs::MayEnd::path_ends_beginning, crate::proofs::MayEnd::memory_ends_beginning))]
 pub fn paths_of<R: Files + AllocGlobal>(rt: &R, path: &str) -> Result<Paths, HostFault>
     ensures reached { IfOk result (λ paths. IsReached path.now (string_bytes paths.taken)) }

@@ -1,4 +1,4 @@
-//! Files of the host and streams, read whole where they are not too large.
+//! Host files and streams, read as a whole if they are not too large.
 ghost use Rattle.std.specs.Prelude.{◌≡◌, ◌≤◌, IfOk, IfErr, IfSome, IsTrue, vec_len};
 ghost use Rattle.fs_host.specs.Faults.{is_reason};
 
@@ -9,8 +9,7 @@ use std::fs::File;
 use std::io::Read;
 use std::rt::Files;
 
-/// The bytes of a file of the host. A plain file of more than `most` bytes is refused before it is read, any other one behind
-/// that many.
+/// Reads the bytes of a host file. A plain file of more than `most` bytes is refused before it is read, and any other file after `most` bytes.
 #[tactic(auto, using(crate::proofs::MayEnd::reason_given))]
 pub fn read_host<R: Files<File = File> + AllocGlobal>(
     rt: &R,
@@ -31,7 +30,7 @@ pub fn read_host<R: Files<File = File> + AllocGlobal>(
     read_some(rt.alloc(), &mut file, most)
 }
 
-/// What a reader gives up to its end, where that is no more than `most` bytes.
+/// Reads a reader up to its end. More than `most` bytes are refused.
 #[tactic(auto, using(crate::proofs::MayEnd::reason_given))]
 pub fn read_some<I: Read>(alloc: Global, reader: &mut I, most: u64) -> Result<Vec<u8>, HostFault>
     ensures all { IfOk result (λ bytes. IfSome (I.remaining reader.old) (λ all. bytes.items ≡ all)) }

@@ -1,10 +1,10 @@
-//! Images of the host that are changed: locked before they are read, and saved whole under their name or not at all.
+//! Images of the host that are changed: locked before they are read, and saved as a whole under their name or not at all.
 ghost use Rattle.std.specs.Prelude.{◌≡◌, ◌↔◌, ◌||◌, ◌<◌, ◌^◌, ℕ, List, [], Some, None, not, IfOk, IfErr, IfSome, OnOk, OnErr, IsSomeAnd, IsTrue, IsFalse, length};
 ghost use Rattle.std.specs.Fs.{metadata_len};
 ghost use Rattle.fs_host.specs.Faults.{may_end_opening, may_end_asking, may_end_locking, may_end_keeping, may_end_giving, may_end_leaving, may_end_saving, may_end_storing, may_end_copying, is_unsynced, may_be_wanting};
 ghost use Rattle.fs_host.specs.Found.{IsRemark, SaysShort};
 ghost use Rattle.fs_host.specs.Layers.{IsReadIn, IsLaidIn, IsUnfit, MayNotBeRead};
-ghost use Rattle.fs_host.specs.Kept.{bytes_kept, remark_kept, floppy_kept, is_floppy, mode_kept, force_kept, path_kept, size_kept, KeepsAll};
+ghost use Rattle.fs_host.specs.Kept.{bytes_kept, remark_kept, floppy_kept, is_floppy, mode_kept, force_kept, path_kept, size_kept, unseen_kept, KeepsAll};
 ghost use Rattle.fs_host.specs.Names.{IsReached};
 
 mod replacing;
@@ -17,8 +17,10 @@ use crate::host_fault::HostFault;
 use crate::in_use::holder_of;
 use crate::layers::{Layered, Layers, ReadFault, layered_in};
 use crate::marks::Mark;
-use crate::names::{follow_links, hidden_name};
+use crate::names::{follow_links, hidden_name, parts};
 use crate::new_file::paths_of;
+use crate::sought::Sought;
+use crate::watch::Watch;
 use crate::writing::{fault_of, sync_folder, write_new};
 use fs_saving::save;
 use ods_base::Image;
@@ -32,27 +34,29 @@ use std::rt::{Clock, Files};
 /// The bits of a mode that say who may do what.
 const MODE_BITS: u32 = 0o7777;
 
-/// An image that no other run of this program changes while this value is there. It is open only for reading.
+/// An image that no other run of this program changes while this value exists. It is open only for reading.
 #[derive(Drop)]
 pub struct Locked {
     file: File,
-    /// Its path, with no link at its end.
+    /// Its path, without a link at its end.
     path: String,
     mark: Mark,
     /// The bits of its mode.
     mode: u32,
     /// Whether another process may have it open.
     force: bool,
-    /// What stands behind the volume that was read, and what is to be said of it.
+    /// The number of processes that may have it open and could not be searched.
+    unseen: u32,
+    /// The bytes after the volume that was read, and the remark on its length.
     behind: Vec<u8>,
     extent: Option<Extent>,
-    /// The bytes of a floppy in physical order, where the image is one.
+    /// The bytes of a floppy in physical order, if the image is one.
     floppy: Option<Floppy>,
 }
 
 impl Locked {
-    /// Locks the image at this path, for a change that `writes` it or one that leaves it as it is. One that is written is refused where
-    /// another process has it open, unless by `force`; it has to be a plain file, and the other may be a block device.
+    /// Locks the image at this path for a change that `writes` it, or for one that leaves it unchanged. An image that is written has to be a plain
+    /// file. It is refused if another process has it open, unless `force`. An image that is not written may be a block device.
     #[tactic(auto, using(crate::proofs::MayEnd::reason_given, crate::proofs::MayEnd::opening_ends_locking, crate::proofs::MayEnd::asking_ends_locking))]
     pub fn of<R: Files<File = File> + Clock + AllocGlobal + Clone + Drop>(
         rt: &R,
@@ -81,23 +85,31 @@ impl Locked {
             Ok(metadata) => metadata,
             Err(error) => return Err(SaveFault::Read(HostFault::of(&error))),
         };
-        let locked = Locked {
+        let mut locked = Locked {
             file,
             path,
             mark: Mark::of(&metadata),
             mode: metadata.mode() & MODE_BITS,
             force: force || !writes,
+            unseen: 0,
             behind: Vec::new(rt.alloc()),
             extent: None,
             floppy: None,
         };
         // Who had the lock before may have put another file under this name.
-        locked.ask_alone(rt)?;
+        locked.unseen = locked.ask_alone(rt)?;
         Ok(locked)
     }
 
-    /// The volume in the image that was locked, of so many blocks where a number is given, and in the order that is said.
-    /// No contract can say which bytes a host file gives.
+    /// Returns the number of processes that could not be searched before the search for a process with the image open ran out of time.
+    pub fn unseen(&self) -> u32
+        ensures { result ≡ unseen_kept self.now }
+    {
+        self.unseen
+    }
+
+    /// Reads the volume in the locked image, with the number of blocks if it is given, and in the given order.
+    /// No contract can state which bytes a host file returns.
     pub fn read(
         &mut self,
         alloc: Global,
@@ -123,14 +135,14 @@ impl Locked {
         }
     }
 
-    /// What is to be said of an image that is longer or shorter than its volume.
+    /// Returns the remark on an image that is longer or shorter than its volume.
     pub fn extent(&self) -> Option<Extent>
         ensures { result ≡ remark_kept self.now }
     {
         self.extent
     }
 
-    /// Whether the image is shorter than its volume.
+    /// Returns whether the image is shorter than its volume.
     pub fn is_short(&self) -> bool
         ensures { IsTrue result ↔ IsSomeAnd (remark_kept self.now) SaysShort }
     {
@@ -140,7 +152,7 @@ impl Locked {
         }
     }
 
-    /// What stands behind the volume.
+    /// Returns the bytes after the volume.
     pub fn behind(&self) -> &[u8]
         ensures { result.now ≡ bytes_kept self.now }
     {
@@ -160,8 +172,8 @@ impl Locked {
         }
     }
 
-    /// Whether the file has the bytes of this volume, and those that stood behind it. A floppy is kept with this volume then.
-    /// No contract can say which bytes a host file gives.
+    /// Returns whether the file has the bytes of this volume, and the bytes that were after it. A kept floppy then has this volume.
+    /// No contract can state which bytes a host file returns.
     pub fn is(&mut self, image: &Image) -> bool
         ensures keeps { KeepsAll self.old self.new }
         ensures laid { IsTrue result → IsLaidIn image.now (bytes_kept self.old) (floppy_kept self.old) (floppy_kept self.new) }
@@ -176,7 +188,7 @@ impl Locked {
         }
     }
 
-    /// The bits of its mode, as `write_new` takes them.
+    /// Returns the bits of its mode, as `write_new` accepts them.
     pub fn mode(&self) -> Option<u32>
         ensures { result ≡ Some (mode_kept self.now) }
     {
@@ -195,26 +207,31 @@ impl Locked {
         }
     }
 
-    /// That the file is as it was, and no other process has it open.
+    /// That the file is as it was, and no other process has it open. How many could not be looked at in time.
     #[tactic(auto, using(crate::proofs::MayEnd::changed_ends_asking, crate::proofs::MayEnd::is_not))]
     fn ask_alone<R: Files<File = File> + Clock + AllocGlobal + Clone + Drop>(
         &self,
         rt: &R,
-    ) -> Result<(), SaveFault>
+    ) -> Result<u32, SaveFault>
         ensures { IfErr result (λ fault. IsTrue (may_end_asking (force_kept self.now) fault)) }
     {
         let found = self.look_again(rt)?;
         if self.force {
-            return Ok(());
+            return Ok(0);
         }
-        match holder_of(rt, &found) {
+        let mut watch = Watch::begun(rt);
+        let (_, name) = parts(self.path.as_str());
+        let Some(sought) = Sought::of(rt, &self.file, &found, name) else {
+            return Ok(0);
+        };
+        match holder_of(rt, &sought, &mut watch) {
             Some(holder) => Err(SaveFault::InUse(holder)),
-            None => Ok(()),
+            None => Ok(watch.left_out()),
         }
     }
 
-    /// Saves the image under the name of the one that was locked, as `store` says. A floppy gets the volume in its places, and keeps its
-    /// other bytes.
+    /// Saves the image under the name of the locked one, as `store` specifies. A floppy receives the volume in its sectors, and keeps its other
+    /// bytes.
     #[tactic(auto, using(crate::proofs::MayEnd::memory_ends_storing, crate::proofs::Failed::on_ok, crate::proofs::Storing::unfit_ends_storing, crate::proofs::Storing::errs_storing))]
     pub fn save<R: Files<File = File> + Clock + AllocGlobal + Clone + Drop>(
         &mut self,
@@ -239,8 +256,8 @@ impl Locked {
         }
     }
 
-    /// Writes the image to a file that is not there before, as `write_new` says, with the mode of the one that was locked. A floppy
-    /// is written whole.
+    /// Writes the image to a file that does not exist before, in the same way as `write_new`, with the mode of the locked one. A floppy is written
+    /// as a whole.
     #[tactic(auto, using(crate::proofs::Failed::on_ok, crate::proofs::Storing::unfit_ends_copying, crate::proofs::Storing::errs_copying))]
     pub fn write_copy<R: Files<File = File> + AllocGlobal>(
         &mut self,

@@ -1,4 +1,4 @@
-//! Names of the host and words, as messages show them.
+//! Host names and words, as messages print them.
 ghost use Rattle.std.specs.Prelude.{Some};
 ghost use Rattle.std.specs.Fmt.{WritesOnOk};
 ghost use Rattle.fs_host.specs.Texts.{shown_letter, shown_text};
@@ -6,7 +6,7 @@ ghost use Rattle.fs_host.specs.Texts.{shown_letter, shown_text};
 use std::fmt;
 use std::fmt::{Display, Formatter};
 
-/// A text whose control characters are shown as `\x1b`, so that none reaches a terminal.
+/// A text whose control characters are printed as `\x1b`, so that none reaches a terminal.
 #[derive(Clone, Copy, Debug)]
 pub struct Shown<'a>(pub &'a str);
 

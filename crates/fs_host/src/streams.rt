@@ -4,8 +4,8 @@ use std::io;
 use std::os::fd::AsRawFd;
 use std::rt::Files;
 
-/// Takes what is free of the descriptors 0, 1 and 2, so that no file that is opened later becomes a stream: `main` calls it before
-/// its first open, and holds the files to its end. Reading or writing a stream that was closed fails. None where it cannot be done.
+/// Opens the free descriptors among 0, 1 and 2, so that no file that is opened later becomes a stream. `main` calls it before its first open, and
+/// holds the files until its end. Reading or writing a stream that was closed fails. Returns `None` if this cannot be done.
 pub fn hold_streams<R: Files<File = File>>(rt: &R) -> Option<[File; 3]> {
     match held_by(rt, "/dev/null") {
         Ok(files) => Some(files),

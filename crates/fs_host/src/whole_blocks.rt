@@ -1,4 +1,4 @@
-//! The image of a reader whose last block may be cut off. No second copy of the blocks is held.
+//! The image of a reader whose last block may be cut off. It keeps no second copy of the blocks.
 ghost use Rattle.std.specs.Prelude.{◌≡◌, ◌+◌, ◌<◌, ◌≤◌, ◌++◌, IfOk, IfSome, OnErr, OnOk, length, take};
 ghost use Rattle.std.specs.Io.{ReadsAtMost};
 ghost use Rattle.std.specs.Io.KnownBytes.{IsAtEnd, Keeps, ReadConsumes, prepend_known};
@@ -103,8 +103,8 @@ fn read_behind<R: Read>(reader: &mut R, piece: &mut [u8], held: usize) -> io::Re
     }
 }
 
-/// The image of the whole blocks that a reader gives up to its end, and how many bytes it gives behind them. More than the largest image has are
-/// refused.
+/// Reads the image of the whole blocks of a reader up to its end, and the number of bytes after them. A reader with more bytes than the largest
+/// image is refused.
 pub fn read_cut_image<R: Read + Drop>(
     alloc: Global,
     reader: R,

@@ -1,4 +1,4 @@
-//! Images written to files of the host that are not there before.
+//! Images written to host files that do not exist before.
 ghost use Rattle.std.specs.Prelude.{◌≡◌, IfOk, IfErr, IfSome, IsTrue};
 ghost use Rattle.fs_host.specs.Faults.{may_end_writing, is_unsynced, may_be_wanting};
 ghost use Rattle.fs_host.specs.Stopped.{fault_told};
@@ -17,9 +17,9 @@ use std::fs::File;
 use std::io::ErrorKind;
 use std::rt::Files;
 
-/// Writes an image, and what stands behind it, to a file that is not there before, with this mode where one is said, and reads it back.
-/// After a failure there is no such file.
-/// `fs_saving` keeps the order of these, over any host. No contract can say what a host file takes; `tests/fs_faults` checks this on
+/// Writes an image, and the bytes after it, to a file that does not exist before, with this mode if one is given, and reads it back. After a
+/// failure there is no such file.
+/// `fs_saving` determines the order of the steps, over any host. No contract can state what a host file receives; `tests/fs_faults` checks this on
 /// the built program.
 #[tactic(auto, using(crate::proofs::MayEnd::stopped_ends_writing))]
 pub fn write_new<R: Files<File = File> + AllocGlobal>(
@@ -60,7 +60,7 @@ pub fn write_new<R: Files<File = File> + AllocGlobal>(
     Ok(sync_folder(rt, path))
 }
 
-/// The fault of a saving that is stopped.
+/// Returns the fault of a stopped save.
 pub fn fault_of(unsaved: Unsaved<SaveFault>) -> SaveFault
     ensures { result ≡ fault_told unsaved }
 {
@@ -70,7 +70,7 @@ pub fn fault_of(unsaved: Unsaved<SaveFault>) -> SaveFault
     }
 }
 
-/// Syncs the folder of this path, so that the name lasts; what is to be said where that fails.
+/// Syncs the folder of this path, so that the name is durable. Returns the incomplete step if this fails.
 #[tactic(auto, using(crate::proofs::MayEnd::error_but_unsupported))]
 pub fn sync_folder<R: Files<File = File>>(rt: &R, path: &str) -> Option<Unfinished>
     ensures { IfSome result (λ unfinished. IsTrue (is_unsynced unfinished)) }

@@ -1,4 +1,4 @@
--- Which files of two volumes differ, and in what.
+-- Which files of two volumes differ, and how.
 use Rattle.std.specs.Prelude.{◌≡◌, ◌≢◌, ℕ, List, Option, Some, None, ◌⊎◌, codes, string_bytes}
 use Rattle.ods_base.specs.declared.file_id.FileId.{FileId}
 use Rattle.ods_space.specs.Layout.{Disk}
@@ -17,12 +17,12 @@ held D = record { image = D.image.now; layout = D.layout.now }
 abbrev pub has_path : List ℕ → Known → Type 0
 has_path path known = string_bytes known.path ≡ path
 
--- the bytes of two files that are compared are in this relation
+-- the bytes of two compared files are in this relation
 abbrev pub HaveBytes : Disk → Facts → Disk → Facts → (List ℕ → List ℕ → Type 0) → Type 0
 HaveBytes D facts E others Are = (x : List ℕ) × ((y : List ℕ) × (HasCompared D.image D.layout facts.file.number x × (HasCompared E.image E.layout others.file.number y × Are x y)))
 
--- What is told of two files of these facts: nothing of two directories, and of others that have the same attributes and the same bytes; else the
--- first in which they differ.
+-- The reported difference of two files of these facts: none for two directories, and for other files with the same attributes and the same bytes.
+-- Otherwise it is the first in which they differ.
 abbrev pub IsTold : Disk → Facts → Disk → Facts → Option (List ℕ) → Type 0
 IsTold D facts E others None =
     ((facts.kind ≡ Directory) × (others.kind ≡ Directory)) ⊎ ((facts.attributes ≡ others.attributes) × HaveBytes D facts E others (λ x y. x ≡ y))
@@ -39,7 +39,7 @@ AreOf D file facts = AreFacts D.image D.layout file.number facts × (facts.file 
 abbrev pub IsNamedBy : Disk → FileId → Type 0
 IsNamedBy D file = (facts : Facts) × AreOf D file facts
 
--- what is told of the files with these IDs
+-- the reported difference of the files with these IDs
 abbrev pub AreCompared : Disk → FileId → Disk → FileId → Option (List ℕ) → Type 0
 AreCompared D one E file word =
     ((word ≡ None) × (IsNamedBy D one → ⊥) × (IsNamedBy E file → ⊥))

@@ -17,16 +17,16 @@ use Rattle.ods_shell.specs.declared.status.Status.TheVariants as status
 use Rattle.fs_reads.specs.declared.reading.Unread.{Unread}
 use Rattle.fs_reads.specs.declared.reading.Unread.TheVariants as unread
 
--- the user has the right to read the file; where no user is said, each file is read
+-- the user has the right to read the file; without a user each file is read
 abbrev pub MayRead : Option Uic → Facts → Type 0
 MayRead user facts = (who : Uic) → user ≡ Some who → permits who facts.owner facts.protection right.Read ≡ true
 
--- this user has not that right
+-- the user does not have that right
 abbrev pub IsDenied : Option Uic → Facts → Unread → Type 0
 IsDenied user facts (unread.Denied who) = (user ≡ Some who) × (permits who facts.owner facts.protection right.Read ≡ false)
 IsDenied user facts (unread.Form fault) = ⊥
 
--- why nothing is got out of the file of these facts: this user may not read it, or may, and it has not what is wanted
+-- why nothing is read from the file of these facts: this user may not read it, or may, and it does not have the requested form
 abbrev pub IsUnread : Option Uic → Facts → (FormFault → Type 0) → Unread → Type 0
 IsUnread user facts Lacks (unread.Denied who) = (user ≡ Some who) × (permits who facts.owner facts.protection right.Read ≡ false)
 IsUnread user facts Lacks (unread.Form fault) = MayRead user facts × Lacks fault
@@ -35,16 +35,16 @@ IsUnread user facts Lacks (unread.Form fault) = MayRead user facts × Lacks faul
 abbrev pub IsClosedTo : List (List ℕ) → VolumeLayout → Uic → ℕ → Type 0
 IsClosedTo I L who n = (facts : Facts) × AreFacts I L n facts × (facts.kind ≡ Directory) × (permits who facts.owner facts.protection right.Read ≡ false)
 
--- just these directories are closed to the user; none where no user is said
+-- exactly these directories are closed to the user; none without a user
 abbrev pub AreClosedTo : List (List ℕ) → VolumeLayout → Option Uic → List ℕ → Type 0
 AreClosedTo I L None closed = closed ≡ []
 AreClosedTo I L (Some who) closed = All (IsClosedTo I L who) closed × ((n : ℕ) → IsClosedTo I L who n → Contains closed n)
 
--- number n comes behind the others where it is that of a closed directory
+-- number n comes after the others if it is the number of a closed directory
 abbrev pub AddsClosed : List (List ℕ) → VolumeLayout → Uic → ℕ → List ℕ → List ℕ → Type 0
 AddsClosed I L who n old new = (IsClosedTo I L who n × (new ≡ old ++ n ∷ [])) ⊎ ((¬ IsClosedTo I L who n) × (new ≡ old))
 
--- the status of a command that goes on past these closed directories
+-- the status of a command that continues past these closed directories
 abbrev pub IsClosedStatus : Option Uic → List Met → Status → Type 0
 IsClosedStatus None met s = s ≡ status.Done
 IsClosedStatus (Some who) [] s = s ≡ status.Done
@@ -54,7 +54,7 @@ IsClosedStatus (Some who) (first ∷ others) s = s ≡ status.Refused
 unfoldable pub user_text : Uic → List ℕ
 user_text who = 91 ∷ radix_digits 8 false who.group ++ 44 ∷ radix_digits 8 false who.member ++ 93 ∷ []
 
--- what is said of a directory whose names this user may not read
+-- the text for a directory whose names this user may not read
 unfoldable pub denied_text : Uic → List ℕ
 denied_text who = codes ": denied to " ++ user_text who ++ 10 ∷ []
 

@@ -1,4 +1,4 @@
--- What is found at a path of the host, and how the writing of a file there ends.
+-- What exists at a path of the host, and how the writing of a file there ends.
 use Rattle.std.specs.Prelude.{◌≡◌, ◌≢◌, ◌⊎◌, Bool, true, false, IsTrue}
 use Rattle.std.specs.declared.io.Error.{Error}
 use Rattle.fs_host.specs.Faults.{is_reason, may_end_finish}
@@ -10,12 +10,12 @@ use Rattle.fs_reads.specs.declared.host_files.There.TheVariants as there
 use Rattle.fs_reads.specs.declared.host_files.Written.{Written}
 use Rattle.fs_reads.specs.declared.host_files.Written.TheVariants as written
 
--- what the host says of a path that it does not look at: nothing is there, or it is closed
+-- the state of a path that the host does not look at: nothing exists there, or it is closed
 abbrev pub unseen_by : HostFault → There
 unseen_by NotThere = there.Nothing
 unseen_by why = there.Closed why
 
--- what is there is kept only where nothing is to be replaced, and a path with nothing there is not closed
+-- an existing file is kept only if nothing is to be replaced, and a path with nothing there is not closed
 abbrev pub IsFoundThere : Bool → There → Type 0
 IsFoundThere replaces there.Nothing = Unit {0}
 IsFoundThere replaces there.Kept = replaces ≡ false
@@ -23,14 +23,14 @@ IsFoundThere replaces (there.Plain old) = replaces ≡ true
 IsFoundThere replaces there.Stream = replaces ≡ true
 IsFoundThere replaces (there.Closed why) = why ≢ NotThere
 
--- how the writing of a file would end, as far as is seen without writing
+-- how the writing of a file would end, as far as it can be determined without writing
 abbrev pub WouldEnd : Bool → Written → Type 0
 WouldEnd replaces written.Done = Unit {0}
 WouldEnd replaces written.IsThere = replaces ≡ false
 WouldEnd replaces (written.Unmade why) = why ≢ NotThere
 WouldEnd replaces (written.Failed why) = ⊥
 
--- the host says so of a call, or memory was refused
+-- the host reports this fault of a call, or memory was refused
 abbrev pub IsSaid : HostFault → Type 0
 IsSaid why = ((error : Error) × (why ≡ reason_of error)) ⊎ (why ≡ NoMemory)
 
@@ -48,7 +48,7 @@ EndsPouring written.IsThere = ⊥
 EndsPouring (written.Unmade why) = IsSaid why
 EndsPouring (written.Failed why) = IsTrue (is_reason why)
 
--- how the writing of a file ends: where one is there that may not be replaced, it may not be made, or it fails
+-- how the writing of a file ends: an existing file may not be replaced, it cannot be created, or it fails
 abbrev pub EndsWriting : Bool → Written → Type 0
 EndsWriting replaces written.Done = Unit {0}
 EndsWriting replaces written.IsThere = Unit {0}

@@ -1,14 +1,14 @@
--- What a file of the host looks like that is no image of a volume: by its first bytes, and else by its length.
+-- The apparent type of a host file that is not the image of a volume: by its first bytes, otherwise by its length.
 use Rattle.std.specs.Prelude.{ℕ, ◌==◌, Bool, List, ◌∷◌, [], Option, Some, None, codes, drop, if◌then◌else◌}
 use Rattle.std.specs.List.{starts_with}
 use Rattle.fs_reads.specs.declared.looks.Look.{Look}
 use Rattle.fs_reads.specs.declared.looks.Look.TheVariants as look
 
--- whether these bytes stand from that place on
+-- whether these bytes are stored from this offset on
 abbrev pub stands : List ℕ → ℕ → List ℕ → Bool
 stands text at bytes = starts_with (λ x y. x == y) (drop at bytes) text
 
--- the first mark that stands in its place; those of home blocks stand at byte 496 of block 1
+-- the first mark that is stored at its offset; marks of home blocks are stored at byte 496 of block 1
 abbrev pub look_of_front : List ℕ → Option Look
 look_of_front bytes =
     if stands (31 ∷ 139 ∷ []) 0 bytes then Some look.Gzip
@@ -21,7 +21,7 @@ look_of_front bytes =
     else if stands (codes "DECFILE11B") 1008 bytes then Some look.Ods2
     else None
 
--- the floppy disk whose sectors have just so many bytes
+-- the floppy disk whose sectors have exactly this number of bytes
 abbrev pub look_of_length : ℕ → Option Look
 look_of_length length =
     if length == 256256 then Some look.Rx01
@@ -29,11 +29,11 @@ look_of_length length =
     else if length == 409600 then Some look.Rx50
     else None
 
--- the one of two that is there, the first before the second
+-- the first of two if it exists, otherwise the second
 abbrev pub first_of : Option Look → Option Look → Option Look
 first_of (Some look) other = Some look
 first_of None other = other
 
--- what a file of this length with these first bytes looks like
+-- the apparent type of a file of this length with these first bytes
 abbrev pub look_of : List ℕ → ℕ → Option Look
 look_of bytes length = if length == 0 then Some look.Empty else first_of (look_of_front bytes) (look_of_length length)

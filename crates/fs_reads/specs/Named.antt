@@ -1,4 +1,4 @@
--- What the paths of a command name.
+-- The files that the paths of a command select.
 use Rattle.std.specs.Prelude.{◌≡◌, ◌≢◌, ◌⊎◌, ◌==◌, ◌&&◌, ◌||◌, ℕ, Bool, true, not, is_some, List, [], ◌++◌, Option}
 use Rattle.std.specs.List.{list_any}
 use Rattle.ods_base.specs.declared.file_id.Uic.{Uic}
@@ -20,7 +20,7 @@ use Rattle.ods_shell.specs.declared.status.Status.TheVariants.{Refused}
 use Rattle.ods_space.specs.Layout.{VolumeLayout}
 use Rattle.fs_reads.specs.Denied.{IsClosedStatus}
 
--- these files are named by this path, past these closed directories; where it says no version, the highest counts, and a folder alone means this
+-- this path selects these files, past these closed directories; without a version the highest counts, and `meaning` is the selection of only a folder
 abbrev pub AreOfPath : List (List ℕ) → VolumeLayout → Alone → List ℕ → List ℕ → List Found → Type 0
 AreOfPath I L meaning closed path found = (says : Said) × Says path says × AreNamedBy I L closed says (highest meaning) found
 
@@ -28,11 +28,11 @@ AreOfPath I L meaning closed path found = (says : Said) × Says path says × Are
 abbrev pub names_no_directory : List ℕ → Bool
 names_no_directory path = not (list_any (λ byte. byte == 91) path) && not (list_any (λ byte. byte == 47) path)
 
--- files of a path that names no directory are looked for in all
+-- files of a path that names no directory are searched in all directories
 abbrev pub searched : List ℕ → Folder → Bool → Folder
 searched path folder says_files = record { steps = folder.steps; below = folder.below || (says_files && names_no_directory path) }
 
--- these lines are found by this path, which names no file by its ID, past these closed directories; all versions where it says none
+-- this path, which names no file by its ID, finds these lines, past these closed directories; all versions if it specifies none
 abbrev pub AreFoundBy : List (List ℕ) → VolumeLayout → List ℕ → List ℕ → FoundLines → Type 0
 AreFoundBy I L closed path found = (folder : Folder) × (files : Option Files) × Says path (Within folder files)
     × AreMeant I L closed (searched path folder (is_some files)) found.directories.items × AreFound I L files versions.Every 0 found.directories.items found.lines.items
@@ -41,17 +41,18 @@ AreFoundBy I L closed path found = (folder : Folder) × (files : Option Files) �
 abbrev pub everywhere : Folder
 everywhere = record { steps = []; below = true }
 
--- the files that a path names, or those in a folder alone, come behind the others, past the closed directories that are met
+-- the files that a path selects, or the files in a folder if it has only a folder, come after the others, past the closed directories that are met
 abbrev pub AddsFiles : List (List ℕ) → VolumeLayout → List ℕ → List ℕ → List Met → List Found → List Found → Type 0
 AddsFiles I L closed path met old new =
     (found : List Found) × (new ≡ old ++ found) × ((shut : List ℕ) → CountAsClosed closed met shut → AreOfPath I L alone.Files shut path found)
 
--- a path names entries of one directory with one name and version, past the closed directories that are met
+-- a path selects entries of one directory with one name and version, past the closed directories that are met
 abbrev pub NamesTwins : List (List ℕ) → VolumeLayout → List ℕ → List ℕ → Type 0
 NamesTwins I L closed path =
     (met : List Met) × ((found : List Found) × HaveTwins found × ((shut : List ℕ) → CountAsClosed closed met shut → AreOfPath I L alone.Files shut path found))
 
--- The files that a path names come behind the others, and the status says whether a closed directory was met; or the path names twins and is refused; or it names none, and the status says why.
+-- The files that a path selects come after the others, and the status depends on whether a closed directory was met. Or the path selects twins and is
+-- refused; or it selects none, and the status states why.
 abbrev pub AddsNamed : List (List ℕ) → VolumeLayout → Option Uic → List ℕ → List ℕ → List Found → List Found → Status → Type 0
 AddsNamed I L user closed path old new s =
     ((met : List Met) × AddsFiles I L closed path met old new × IsClosedStatus user met s)

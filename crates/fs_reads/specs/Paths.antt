@@ -1,4 +1,4 @@
--- All paths of a volume, as a comparison takes them.
+-- All paths of a volume, in the form that a comparison uses.
 use Rattle.std.specs.Prelude.{◌≡◌, ℕ, List, [], None, IsPermutation, IsSortedByKey, map, string_bytes}
 use Rattle.std.specs.Cmp.Lexicographic.{slice_cmp}
 use Rattle.std.specs.List.{Contains}
@@ -19,11 +19,11 @@ use Rattle.fs_reads.specs.declared.comparing.Known.{Known}
 abbrev pub path_and_file : Known → List ℕ × FileId
 path_and_file known = (string_bytes known.path, known.file)
 
--- the path of each line that was found, and the ID that the line says
+-- the path of each line that was found, and its ID
 abbrev pub paths_found : FoundLines → List (List ℕ × FileId)
 paths_found found = map (λ line. (line_path found.directories.items line, line.entry.file)) found.lines.items
 
--- the paths stand in the order of their bytes
+-- the paths are sorted by their bytes
 abbrev pub AreInOrder : List Known → Type 0
 AreInOrder all = IsSortedByKey (λ (known : Known). string_bytes known.path) (slice_cmp nat_cmp) all
 
@@ -31,7 +31,7 @@ AreInOrder all = IsSortedByKey (λ (known : Known). string_bytes known.path) (sl
 abbrev pub LacksPath : List ℕ → List Known → Type 0
 LacksPath path all = (known : Known) → Contains all known → ¬ has_path path known
 
--- These are the paths of a volume: one for each line of each directory to which names lead from the master directory, in the order of their bytes.
+-- The paths of a volume: one for each line of each directory that names reach from the master directory, sorted by their bytes.
 pub record AreAllPaths (I : List (List ℕ)) (L : VolumeLayout) (all : List Known) : Type 0 where
   pub found : FoundLines
   pub meant : AreMeant I L [] everywhere found.directories.items

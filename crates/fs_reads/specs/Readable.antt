@@ -9,14 +9,14 @@ use Rattle.ods_shell.specs.declared.status.Status.TheVariants as status
 use Rattle.fs_reads.specs.declared.stop.Stop.{Stop}
 use Rattle.fs_reads.specs.declared.stop.Stop.TheVariants as stop
 
--- an image with its layout, whether a mount takes it, and how many bytes stand behind the volume
+-- an image with its layout, whether a mount accepts it, and how many bytes come past the volume
 pub record Opened : Type 0 where
   pub image : List (List ℕ)
   pub layout : VolumeLayout
   pub sound : Bool
   pub behind : ℕ
 
--- the status of a command that showed all that it could: that an image is refused comes first
+-- the status of a command that showed all that it could: a refused image comes first
 abbrev pub end_of : Bool → Status → Status
 end_of sound done = if sound then done else status.Image
 
@@ -24,6 +24,6 @@ end_of sound done = if sound then done else status.Image
 abbrev pub IsJudged : List (List ℕ) → Opened → Type 0
 IsJudged I r = (r.image ≡ I) × IsReadable I r.layout × MatchBool r.sound (IsSound I) ((fault : MountFault) × FaultIsTrue I fault)
 
--- why a command does not go on: memory is wanting, or no layout leads to the files of the image
+-- why a command ends early: out of memory, or no layout locates the files of the image
 abbrev pub LacksLayout : List (List ℕ) → Stop → Type 0
 LacksLayout I s = (s ≡ stop.NoMemory) ⊎ ((L : VolumeLayout) → ¬ FindsFiles I L)

@@ -1,4 +1,4 @@
--- What is said of the files that a scan finds.
+-- The texts for the files that a scan finds.
 use Rattle.std.specs.Prelude.{ℕ, List, ◌++◌, codes, Option, Some, None}
 use Rattle.std.specs.Fmt.{decimal}
 use Rattle.ods_base.specs.declared.file_id.FileId.{FileId}
@@ -14,7 +14,7 @@ id_text file = codes "#" ++ (decimal file.number ++ (codes "," ++ decimal file.s
 abbrev pub placed_name : List ℕ → List ℕ → ℕ → List ℕ
 placed_name name id lbn = name ++ (codes " " ++ (id ++ (codes " @" ++ decimal lbn)))
 
--- the status of a file of which this is missing, and which is copied all the same
+-- the status of a copied file of which this is missing
 abbrev pub status_lacking : Option ChainFault → Status
 status_lacking None = Done
 status_lacking (Some fault) = Found

@@ -1,4 +1,4 @@
--- When deleted files that IDs name are got.
+-- When deleted files that IDs name are extracted.
 use Rattle.std.specs.Prelude.{◌≡◌, ◌⊎◌, ℕ, List, Option, Some}
 use Rattle.std.specs.Borrow.{Bor}
 use Rattle.std.specs.List.{All}
@@ -14,22 +14,22 @@ use Rattle.ods_shell.specs.declared.status.Status.{Status}
 use Rattle.ods_shell.specs.declared.status.Status.TheVariants as status
 use Rattle.fs_reads.specs.Denied.{MayRead}
 
--- the path says an ID
+-- the path is an ID
 abbrev pub SaysId : List ℕ → Type 0
 SaysId path = (id : FileId) × Says path (File id)
 
--- this is known of the deleted file with this ID, which the user might read by its first header, and these bytes are got out of it
+-- this is known of the deleted file with this ID, which the user might read by its first header, and these bytes are read from it
 abbrev pub IsFormerGot : Option Uic → (FileId → List ℕ → Option Remark → Type 0) → Former → Type 0
 IsFormerGot user Gives f = (facts : Facts) × (f.found.facts ≡ Some facts) × MayRead user facts × ((bytes : List ℕ) × (said : Option Remark) × Gives f.known.file bytes said)
 
--- the path says the ID of a deleted file that is got
+-- the path is the ID of a deleted file that is extracted
 abbrev pub IsIdGot : List (List ℕ) → VolumeLayout → Option Uic → (FileId → List ℕ → Option Remark → Type 0) → List ℕ → Type 0
 IsIdGot I L user Gives path = (f : Former) × IsFormer I L f × Says path (File f.known.file) × IsFormerGot user Gives f
 
--- each of these paths does
+-- each of these paths is such an ID
 abbrev pub AreIdsGot : List (List ℕ) → VolumeLayout → Option Uic → (FileId → List ℕ → Option Remark → Type 0) → List (Bor (List ℕ)) → Type 0
 AreIdsGot I L user Gives paths = All (λ path. IsIdGot I L user Gives path.now) paths
 
--- the status of a file: it is got; or it is refused, or the host does not take it
+-- the status of a file: it is extracted; or it is refused, or the host does not accept it
 abbrev pub EndsBy : Type 0 → Status → Type 0
 EndsBy Got s = ((s ≡ status.Done) × Got) ⊎ (s ≡ status.Refused) ⊎ (s ≡ status.Host)

@@ -5,7 +5,7 @@ use Rattle.ods_shell.specs.declared.status.Status.TheVariants as status
 use Rattle.fs_reads.specs.declared.host_files.Written.{Written}
 use Rattle.fs_reads.specs.declared.host_files.Written.TheVariants as written
 
--- the status of a command whose file was written so
+-- the status of a command whose file was written with this result
 abbrev pub status_written : Written → Status
 status_written written.Done = status.Done
 status_written written.IsThere = status.Host

@@ -1,5 +1,5 @@
-//! `check`: what is wrong with an image, sound or not.
-ghost use Rattle.std.specs.Prelude.{◌≡◌, ◌++◌, ◌⊎◌, None, IfOk, MatchOption, OnOk, string_bytes};
+//! `check`: the faults and findings of an image, sound or not.
+ghost use Rattle.std.specs.Prelude.{◌≡◌, ◌++◌, ◌⊎◌, None, IfOk, IfSome, MatchOption, OnOk, length, string_bytes, take, true};
 ghost use Rattle.ods_mount.specs.Faults.{IsDirectoryFile, IsSound};
 ghost use Rattle.ods_shell.specs.ByNumber.{AreNames};
 ghost use Rattle.ods_shell.specs.declared.status.Status.{Status as Code};
@@ -14,7 +14,7 @@ use crate::volume::{VolumeFault, no_volume, open_image, say_extent};
 use fs_host::{Extent, Layers};
 use ods_base::Image;
 use ods_check::{
-    MOST_LINES, are_all_read, check_all, check_first, count_findings, file_in, findings,
+    Checked, MOST_LINES, are_all_read, check_all, check_first, count_findings, file_in, findings,
 };
 use ods_shell::{FileNames, Status, long_record, number_object, spoiled_records};
 use ods_space::{Disk, Layout, last_number, sequence};
@@ -22,7 +22,7 @@ use std::alloc::{AllocError, Global};
 use std::fs::File;
 use std::rt::Files;
 
-/// `check` of the image at this path.
+/// Checks the image at this path and prints what is wrong (`check`).
 pub fn check<'a, R: Files<File = File> + AllocGlobal + Print + Eprint>(
     rt: &R,
     path: &'a str,
@@ -55,7 +55,7 @@ pub fn check<'a, R: Files<File = File> + AllocGlobal + Print + Eprint>(
     }
 }
 
-/// `check` of an image.
+/// Checks an image and prints what is wrong. The status is `Done` only if the image is sound.
 pub fn check_image<'a, R: AllocGlobal + Print>(
     rt: &R,
     image: &Image,
@@ -174,35 +174,63 @@ fn tell_all<'a, R: AllocGlobal + Print>(
 ) -> Result<Status, Stop<'a>>
     ensures { IfOk result (EndsCheck (IsSound image.now)) }
 {
-    let mut output = Output::new(rt.alloc(), json);
-    if let Some(short) = short {
-        output.say(rt, "finding", short)?;
-    }
     let checked = check_all(rt.alloc(), image)?;
     let names = all_names(rt.alloc(), image, &checked.layout)?;
-    for fault in checked.faults.kept_lines() {
-        let beside = paths_beside(rt.alloc(), &names, fault.first_file(), fault.second_file())?;
-        output.say_about(rt, "fault", *fault, &beside)?;
-    }
-    output.say_more(rt, "more_faults", checked.faults.more(), "faults")?;
-    let sharing = checked.sharing.more();
-    output.say_more(
-        rt,
-        "more_sharing",
-        sharing,
-        "files that share blocks with files before them",
-    )?;
-    if let Some(layout) = &checked.layout {
-        let disk = Disk { image, layout };
-        tell_findings(rt, &disk, &names, &mut output)?;
-        tell_spoiled(rt, &disk, &names, &mut output)?;
-        tell_long(rt, &disk, &names, &mut output)?;
-    }
+    let mut output = Output::new(rt.alloc(), json);
+    tell_each(rt, image, short, &checked, &names, &mut output)?;
     if output.is_empty() {
         return tell_sound(rt, json);
     }
     output.end(rt)?;
     Ok(Status::Found)
+}
+
+/// A line if the image is shorter than its volume, and for each fault and each finding.
+fn tell_each<'a, R: AllocGlobal + Print>(
+    rt: &R,
+    image: &Image,
+    short: Option<Extent>,
+    checked: &Checked,
+    names: &Option<FileNames>,
+    output: &mut Output,
+) -> Result<(), Stop<'a>>
+    requires { IfSome checked.now.layout (IsLayoutOf image.now) }
+    ensures { OnOk result (output.new.is_empty ≡ true → length (take checked.now.faults.1 checked.now.faults.0) ≡ 0) }
+{
+    if let Some(short) = short {
+        output.say(rt, "finding", short)?;
+    }
+    tell_faults(rt, checked, names, output)?;
+    if let Some(layout) = &checked.layout {
+        let disk = Disk { image, layout };
+        tell_findings(rt, &disk, names, output)?;
+        tell_spoiled(rt, &disk, names, output)?;
+        tell_long(rt, &disk, names, output)?;
+    }
+    Ok(())
+}
+
+/// A line for each fault, and the numbers of faults that are not listed.
+fn tell_faults<'a, R: AllocGlobal + Print>(
+    rt: &R,
+    checked: &Checked,
+    names: &Option<FileNames>,
+    output: &mut Output,
+) -> Result<(), Stop<'a>>
+    ensures { OnOk result (output.new.is_empty ≡ true → length (take checked.now.faults.1 checked.now.faults.0) ≡ 0) }
+{
+    for fault in checked.faults.kept_lines() {
+        let beside = paths_beside(rt.alloc(), names, fault.first_file(), fault.second_file())?;
+        output.say_about(rt, "fault", *fault, &beside)?;
+    }
+    output.say_more(rt, "more_faults", checked.faults.more(), "faults")?;
+    output.say_more(
+        rt,
+        "more_sharing",
+        checked.sharing.more(),
+        "files that share blocks with earlier files",
+    )?;
+    Ok(())
 }
 
 /// A line for each finding. Where some directory is not read, a file that no other names may be named there: it is not said to be named by
@@ -242,7 +270,7 @@ fn tell_unread<'a, R: Print>(
     output.say(
         rt,
         "remark",
-        "files that no directory names are not listed, since a directory is not read",
+        "files that no directory names are not listed, because a directory cannot be read",
     )
 }
 

@@ -15,7 +15,7 @@ use ods_shell::{Directory, Kind, Status, facts_of, push_directory};
 use ods_space::{Disk, last_number};
 use std::alloc::{AllocError, Global};
 
-/// The directories whose names this user may not read; none where no user is said.
+/// Returns the numbers of the directories whose names this user may not read, or none without a user.
 pub(crate) fn closed_to(
     alloc: Global,
     disk: &Disk<'_>,
@@ -100,7 +100,7 @@ fn push_user(lines: &mut String, user: Uic) -> Result<(), AllocError>
     write!(lines, "[{:o},{:o}]", user.group, user.member)
 }
 
-/// Says of each closed directory that this user may not read it, and gives the status for that.
+/// Prints for each closed directory that this user may not read it, and returns the status.
 pub(crate) fn say_closed<'a, R: AllocGlobal + Eprint>(
     rt: &R,
     closed: &[Directory],
@@ -141,7 +141,7 @@ pub(crate) fn stop_at_closed<'a>(
     }
 }
 
-/// Ends a command that needs the names of all directories, where one is closed.
+/// Ends a command that requires the names of all directories, if one is closed.
 pub(crate) fn stop_at_numbers<'a>(closed: &[u16], user: Option<Uic>) -> Result<(), Stop<'a>>
     ensures ok { OnOk result ((user ≡ None) ⊎ (closed.now ≡ [])) }
     ensures err { IfErr result (λ stop. StopsWith stop Code.Refused) }

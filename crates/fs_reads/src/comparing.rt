@@ -17,7 +17,7 @@ use crate::finding::find_all;
 use crate::progress::Progress;
 use crate::readable::{Readable, open_readable};
 use crate::reading::check_right;
-use crate::stop::{Stop, send, stop_about};
+use crate::stop::{Stop, send, stop_about, stop_at_own_output};
 use fs_host::Layers;
 use fs_words::Words;
 use ods_base::{FileId, Listed, Uic};
@@ -40,7 +40,7 @@ pub struct Known {
     pub file: FileId,
 }
 
-/// `cmp` with the image at the first path.
+/// Compares the volume with the image at the first path (`cmp`).
 pub(crate) fn compare_all<'a, R: Files<File = File> + Clock + AllocGlobal + Print + Eprint>(
     rt: &R,
     disk: &Disk<'_>,
@@ -54,38 +54,113 @@ pub(crate) fn compare_all<'a, R: Files<File = File> + Clock + AllocGlobal + Prin
     let Some(path) = words.paths.first() else {
         return Ok(Status::Words);
     };
+    stop_at_own_output(rt, *path)?;
     let opened = open_readable(rt, *path, None, Layers::Found, false)?;
-    let other = opened.disk();
+    compare_with(rt, disk, &opened, words, all, progress)
+}
+
+/// Compares the volume with this one, and prints what differs.
+fn compare_with<'a, R: Clock + AllocGlobal + Print + Eprint>(
+    rt: &R,
+    disk: &Disk<'_>,
+    opened: &Readable,
+    words: &Words<'a>,
+    all: bool,
+    progress: &mut Progress,
+) -> Result<Status, Stop<'a>>
+    requires { on FindsFiles disk.now }
+    ensures { IfOk result EndsCompare }
+{
+    let text = differences(rt, disk, &opened.disk(), words, all, progress)?;
+    if text.is_empty() {
+        return Ok(end_comparison(opened, true));
+    }
+    print_differences(rt, text.as_str(), words.json)?;
+    Ok(end_comparison(opened, false))
+}
+
+/// The lines of what differs between two volumes.
+fn differences<'a, R: Clock + AllocGlobal + Eprint>(
+    rt: &R,
+    disk: &Disk<'_>,
+    other: &Disk<'_>,
+    words: &Words<'a>,
+    all: bool,
+    progress: &mut Progress,
+) -> Result<String, Stop<'a>>
+    requires one { on FindsFiles disk.now }
+    requires other { on FindsFiles other.now }
+{
     let alloc = rt.alloc();
     let ours = all_paths(alloc, disk, words.user)?;
-    let theirs = all_paths(alloc, &other, words.user)?;
+    let theirs = all_paths(alloc, other, words.user)?;
     let mut text = String::new(alloc);
+    push_of_first(
+        rt, disk, &ours, other, &theirs, words, all, progress, &mut text,
+    )?;
+    push_of_second(&ours, &theirs, &mut text)?;
+    Ok(text)
+}
+
+/// Appends a line for each path of the first volume that the second lacks, or whose file differs there.
+fn push_of_first<'a, R: Clock + AllocGlobal + Eprint>(
+    rt: &R,
+    disk: &Disk<'_>,
+    ours: &[Known],
+    other: &Disk<'_>,
+    theirs: &[Known],
+    words: &Words<'a>,
+    all: bool,
+    progress: &mut Progress,
+    text: &mut String,
+) -> Result<(), Stop<'a>>
+    requires one { on FindsFiles disk.now }
+    requires other { on FindsFiles other.now }
+{
     for (done, one) in ours.iter().enumerate() {
         progress.show(rt, done as u64, ours.len() as u64);
-        match place_of(&theirs, one.path.as_str()) {
+        match place_of(theirs, one.path.as_str()) {
             Some(place) => {
                 if let Some(found) = theirs.get(place) {
                     push_difference(
-                        alloc, disk, one, &other, found.file, words.user, all, &mut text,
+                        rt.alloc(),
+                        disk,
+                        one,
+                        other,
+                        found.file,
+                        words.user,
+                        all,
+                        text,
                     )?;
                 }
             }
             None => writeln!(text, "{}: only in the first image", one.path.as_str())?,
         }
     }
-    for one in &theirs {
-        if place_of(&ours, one.path.as_str()).is_none() {
+    Ok(())
+}
+
+/// Appends a line for each path of the second volume that the first lacks.
+fn push_of_second(ours: &[Known], theirs: &[Known], text: &mut String) -> Result<(), AllocError> {
+    for one in theirs {
+        if place_of(ours, one.path.as_str()).is_none() {
             writeln!(text, "{}: only in the second image", one.path.as_str())?;
         }
     }
-    if text.is_empty() {
-        return Ok(end_comparison(&opened, true));
+    Ok(())
+}
+
+/// Prints the lines of what differs, or an object for each.
+fn print_differences<'a, R: AllocGlobal + Print>(
+    rt: &R,
+    lines: &str,
+    json: bool,
+) -> Result<Status, Stop<'a>> {
+    if !json {
+        return send(rt, lines);
     }
-    if words.json {
-        text = objects(alloc, text.as_str())?;
-    }
-    send(rt, text.as_str())?;
-    Ok(end_comparison(&opened, false))
+    let objects = objects(rt.alloc(), lines)?;
+    send(rt, objects.as_str())
 }
 
 /// The status of a comparison with this image, by whether the two are alike.
@@ -111,7 +186,7 @@ fn objects(alloc: Global, text: &str) -> Result<String, AllocError> {
     Ok(objects)
 }
 
-/// All paths of a sound volume, in the order of their bytes.
+/// Returns all paths of a sound volume, sorted by their bytes.
 pub fn all_known<'a>(
     alloc: Global,
     volume: &Mounted,
@@ -202,7 +277,7 @@ fn compare_path(known: &Known, path: &str) -> Ordering
     known.path.as_str().cmp(path)
 }
 
-/// The place of a path.
+/// Returns the index of a path in the sorted list `all`, or None if it is not in the list.
 pub fn place_of(all: &[Known], path: &str) -> Option<usize>
     ensures there { IfSome result (HoldsAt (has_path path.now) all.now) }
     ensures within { IfSome result (λ place. place < length all.now) }
@@ -336,7 +411,7 @@ fn push_if(text: &mut String, path: &str, differs: bool, what: &str) -> Result<(
     Ok(())
 }
 
-/// What differs between the files with these IDs of two sound volumes.
+/// Returns the first difference between the files with these IDs of two sound volumes, or None.
 pub fn difference_by_id<'a>(
     alloc: Global,
     volume: &Mounted,

@@ -12,7 +12,7 @@ use ods_shell::{Deletion, PathFault, Status, deletion_lines, deletion_objects, k
 use ods_space::Disk;
 use std::alloc::{AllocError, Global};
 
-/// Appends what `find --deleted` shows. The texts of the paths before one that is refused stay.
+/// Appends the output of `find --deleted`. If a path is refused, the text of the paths before it stays.
 pub(crate) fn push_deleted<'a>(
     alloc: Global,
     disk: &Disk<'_>,
@@ -158,7 +158,7 @@ fn files_alone<'a>(alloc: Global, path: &'a str) -> Result<Files<'a>, Stop<'a>>
     ensures err { IfErr result EndsWords }
 {
     if !names_no_directory(path) {
-        let why = "a deleted file is in no directory: say its name alone";
+        let why = "a deleted file is in no directory: give only its name";
         return Err(stop_about(alloc, path, why, Status::Words));
     }
     match parse_path(path.as_bytes()) {
@@ -175,7 +175,8 @@ fn own_versions<'a>(alloc: Global, path: &'a str, files: Files<'a>) -> Result<Fi
     ensures err { IfErr result EndsWords }
 {
     if counts_from_others(files.versions) {
-        let why = "the versions beside a deleted file are not known: say ;3 for one, or none";
+        let why =
+            "the other versions of a deleted file are not known: give a version such as ;3, or none";
         return Err(stop_about(alloc, path, why, Status::Words));
     }
     Ok(files)

@@ -1,4 +1,4 @@
-//! The paths of files, beside the lines that `check` says of them.
+//! The paths of files, next to the lines that `check` prints about them.
 ghost use Rattle.std.specs.Prelude.{◌≡◌, ◌++◌, ◌∷◌, [], true, false, Some, IfOk, option_map, string_bytes};
 ghost use Rattle.ods_shell.specs.ByNumber.{path_noted};
 ghost use Rattle.fs_reads.specs.Told.{path_told, told_line};
@@ -6,14 +6,14 @@ ghost use Rattle.fs_reads.specs.Told.{path_told, told_line};
 use ods_shell::{FileNames, pair_object, text_object, trio_object};
 use std::alloc::{AllocError, Global};
 
-/// The paths of the files that a line is of: of one, or of two.
+/// The paths of the one or two files that a line describes.
 #[derive(Drop)]
 pub(crate) struct Beside {
     pub first: Option<String>,
     pub second: Option<String>,
 }
 
-/// The paths of the files that a line is of, where they are known.
+/// Returns the paths of the files that a line describes, if they are known.
 pub(crate) fn paths_beside(
     alloc: Global,
     names: &Option<FileNames>,
@@ -46,7 +46,7 @@ fn path_of(
     }
 }
 
-/// A line with the paths behind it; or an object with the line as the text of this name, and the paths.
+/// Returns a line followed by the paths, or an object with the line as the text of this name, and the paths.
 pub(crate) fn line_about(
     alloc: Global,
     json: bool,

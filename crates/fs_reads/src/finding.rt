@@ -18,7 +18,7 @@ use ods_shell::{
 use ods_space::Disk;
 use std::alloc::{AllocError, Global};
 
-/// Appends what `find` shows.
+/// Appends the output of `find`.
 #[tactic(auto, using(crate::proofs::Growing::extends_pushed, crate::proofs::Growing::extends_on, crate::proofs::Growing::extends_same))]
 pub(crate) fn push_paths<'a>(
     alloc: Global,
@@ -73,7 +73,7 @@ fn push_found(
     text.push_str(lines.as_str())
 }
 
-/// All that a walk from the master directory reaches, but for what stands in these directories.
+/// Returns everything that a walk from the master directory reaches, except the contents of these directories.
 pub(crate) fn find_all(
     alloc: Global,
     disk: &Disk<'_>,
@@ -125,7 +125,7 @@ fn to_search<'a>(path: &str, folder: Folder<'a>, says_files: bool) -> Folder<'a>
     }
 }
 
-/// Whether a path has no part that names a directory.
+/// Returns whether a path names no directory: it has no `[` and no `/`.
 pub(crate) fn names_no_directory(path: &str) -> bool
     ensures { result ≡ names_no_directory path.now }
 {
@@ -133,7 +133,7 @@ pub(crate) fn names_no_directory(path: &str) -> bool
     !bytes.contains(&b'[') && !bytes.contains(&b'/')
 }
 
-/// Appends what `du` shows.
+/// Appends the output of `du`.
 #[tactic(auto, using(crate::proofs::Growing::extends_pushed, crate::proofs::Growing::extends_on, crate::proofs::Growing::extends_same))]
 pub(crate) fn push_usage(
     alloc: Global,

@@ -33,7 +33,7 @@ use std::rt::Files;
 use std::time::Clock;
 use std::{fs, io};
 
-/// Where files are written to.
+/// The destination of extracted files.
 #[derive(Clone, Copy, PartialEq, Eq)]
 pub(crate) enum Destination<'a> {
     /// Standard output.
@@ -47,23 +47,23 @@ pub(crate) enum Destination<'a> {
 /// How files are written.
 #[derive(Clone, Copy)]
 pub(crate) struct How<'a> {
-    /// The path of the image, which no file is written onto.
+    /// The path of the image. No file is written onto it.
     pub image: &'a str,
     pub wanted: Wanted,
-    /// Whether their names have their versions.
+    /// Whether host names include the versions.
     pub with_versions: bool,
-    /// Whether files of the host may be replaced.
+    /// Whether existing host files may be replaced.
     pub force: bool,
-    /// Whether nothing is written, and it is told what would be.
+    /// Whether the command only prints what it would write.
     pub only_tells: bool,
     pub json: bool,
     pub reader: Reader,
-    /// The zone by which each file of the host gets the creation date of its file, where that is asked for.
+    /// The zone that turns the creation date of each file into the modification time of its host file, if requested.
     pub zone: Option<&'a HostZone>,
 }
 
-/// `get`: the files that the paths name, to a destination; where none is said the last word is it, of two or more. With a zone each file of the host gets
-/// the creation date of its file.
+/// `get`: extracts the files that the paths select. Without `said`, the last of two or more words is the destination. With a zone, each host file
+/// receives the creation date of its file as its modification time.
 pub(crate) fn get<'a, R: Files<File = File> + Clock + AllocGlobal + Print + Eprint>(
     rt: &R,
     disk: &Disk<'_>,
@@ -96,7 +96,7 @@ pub(crate) fn get<'a, R: Files<File = File> + Clock + AllocGlobal + Print + Epri
     Ok(named.or(get_all(rt, disk, &all, to, how, progress)?))
 }
 
-/// The words that are paths, and where files go to: to what is said, or where nothing is to the last word of two or more.
+/// Splits the words into the paths and the destination. Without `said`, the last of two or more words is the destination.
 pub(crate) fn split_words<'a, 'b>(
     words: &'b [&'a str],
     said: Option<&'a str>,
@@ -109,7 +109,8 @@ pub(crate) fn split_words<'a, 'b>(
     }
 }
 
-/// Where the files of so many paths go.
+/// Returns the destination for the files of `paths` paths: the working folder without a target, standard output for `-`, otherwise a folder or file
+/// of the host. Fails with `NoFolder` if two or more paths go to a target that is not a folder.
 pub(crate) fn choose_destination<'a, R: Files>(
     rt: &R,
     target: Option<&'a str>,
@@ -192,7 +193,7 @@ fn last_word<'a, 'b>(words: &'b [&'a str]) -> (&'b [&'a str], Option<&'a str>)
     }
 }
 
-/// Whether this is what the host says of a folder.
+/// Returns whether the metadata describe a folder. An error counts as no folder.
 pub(crate) fn is_folder(found: io::Result<Metadata>) -> bool
     ensures { MatchResult found (λ metadata. IsTrue result ↔ IsDir (file_type metadata)) (λ _. result ≡ false) }
 {
@@ -223,7 +224,7 @@ fn get_all<'a, R: Files<File = File> + Clock + AllocGlobal + Print + Eprint>(
     get_each(rt, disk, files, to, how, progress)
 }
 
-/// Gets each of these files.
+/// Extracts each of these files.
 pub(crate) fn get_each<'a, R: Files<File = File> + Clock + AllocGlobal + Print + Eprint>(
     rt: &R,
     disk: &Disk<'_>,
@@ -290,9 +291,11 @@ fn get_into<'a, R: Files<File = File> + AllocGlobal + Print + Eprint>(
     ensures { IfOk result (EndsGet how.entry.reader.user (λ n. on IsGot disk.now n how.entry.wanted) (λ n. on IsNotGot disk.now n how.entry.wanted) found.now) }
 {
     let path = path_within(rt.alloc(), folder, name.as_str())?;
-    if written.contains(&name) && (how.force || how.only_tells) {
+    if written.contains(&name) {
         let (from, path) = (found.path.as_str(), Shown(path.as_str()));
-        let _ = eprintln!(rt; "f11fs: {from}: {path} has been written by this command");
+        let _ = eprintln!(rt;
+            "f11fs: {from}: this command already wrote {path}; get this file to another TARGET"
+        );
         return Ok(Status::Host);
     }
     let done = get_file(rt, disk, found, path.as_str(), how)?;
@@ -302,7 +305,7 @@ fn get_into<'a, R: Files<File = File> + AllocGlobal + Print + Eprint>(
     Ok(done)
 }
 
-/// The path of a file of this name in a folder of the host.
+/// Returns the path of a file of this name in a folder of the host.
 pub(crate) fn path_within(alloc: Global, folder: &str, name: &str) -> Result<String, AllocError>
     ensures { IfOk result (λ path. string_bytes path ≡ path_within folder.now name.now) }
 {
@@ -331,8 +334,8 @@ fn get_file<'a, R: Files<File = File> + AllocGlobal + Print + Eprint>(
     }
 }
 
-/// The second since 1970 that a file of the host gets as the time of its last change: that of the creation of its file, by a clock in this zone. None
-/// where no zone is said, and where the file has no such date.
+/// Returns the modification time for a host file, in seconds since 1970: the creation date of its file, by a clock in this zone. Returns None without
+/// a zone, or if the file has no such date.
 pub(crate) fn second_for(zone: Option<&HostZone>, facts: Option<Facts>) -> Option<u32>
     ensures { IsDatedBy (is_some zone.entry) facts result }
 {
@@ -362,7 +365,7 @@ fn second_at(zone: &HostZone, date: &[u8; 13]) -> Option<u32>
     }
 }
 
-/// Writes what is got out of a file into one of the host, or tells it; how it ended is said.
+/// Writes the contents of a file to a host file, or prints that it would. Reports each failure on standard error and returns the status.
 pub(crate) fn keep<'a, R: Files<File = File> + AllocGlobal + Print + Eprint>(
     rt: &R,
     path: &str,
@@ -416,7 +419,9 @@ fn say_written<R: Eprint>(rt: &R, path: &str, host: &str, written: Written) -> S
     let host = Shown(host);
     let _ = match written {
         Written::Done => return Status::Done,
-        Written::IsThere => { eprintln!(rt; "f11fs: {path}: {host} is there; --force replaces it") }
+        Written::IsThere => {
+            eprintln!(rt; "f11fs: {path}: {host} already exists; --force replaces it")
+        }
         Written::Unmade(why) => eprintln!(rt; "f11fs: {path}: {host} cannot be made: {why}"),
         Written::Failed(HostFault::Left) => eprintln!(rt;
             "f11fs: {path}: {host}: {}",

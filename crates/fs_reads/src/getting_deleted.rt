@@ -1,4 +1,4 @@
-//! `get --deleted`: deleted files whose headers are still there, written to files of the host.
+//! `get --deleted`: deleted files whose headers still exist, written to files of the host.
 ghost use Rattle.std.specs.Prelude.{◌≡◌, ◌⊎◌, ℕ, List, Option, true, IfErr, IfOk, OnOk};
 ghost use Rattle.std.specs.Borrow.{Bor};
 ghost use Rattle.std.specs.List.{All};
@@ -36,8 +36,9 @@ use std::io;
 use std::rt::Files;
 use std::time::Clock;
 
-/// `get --deleted`: the deleted files that the IDs name, to a destination; where none is said the last word is it, of two or more. Where
-/// `partial`, what is left of those that are not whole too. With a zone each file of the host gets the creation date of its file. No file is written where a path is no ID.
+/// `get --deleted`: extracts the deleted files with these IDs. Without `said`, the last of two or more words is the destination. With `partial`, also
+/// extracts the rest of files that are not whole. With a zone, each host file receives the creation date of its file. No file is written if a path is
+/// not an ID.
 pub(crate) fn get_deleted<'a, R: Files<File = File> + Clock + AllocGlobal + Print + Eprint>(
     rt: &R,
     disk: &Disk<'_>,
@@ -88,7 +89,7 @@ fn id_in<'a>(alloc: Global, path: &'a str) -> Result<FileId, Stop<'a>>
     match parse_path(path.as_bytes()) {
         Ok(Path::File(id)) => Ok(id),
         Ok(Path::Within(_, _)) => {
-            let why = "a deleted file is in no directory: say its ID, which find --deleted shows";
+            let why = "a deleted file is in no directory: give its ID, which find --deleted shows";
             Err(stop_about(alloc, path, why, Status::Words))
         }
         Err(bad) => Err(Stop::Path(path, PathFault::Bad(bad))),
@@ -147,7 +148,7 @@ fn get_id<'a, R: Files<File = File> + AllocGlobal + Print + Eprint>(
             say_about(
                 rt,
                 path,
-                "no deleted file has this ID; find --deleted shows those that are left",
+                "no deleted file has this ID; find --deleted lists the deleted files",
             );
             Ok(Status::Refused)
         }
@@ -237,7 +238,9 @@ fn put_into<'a, R: Files<File = File> + AllocGlobal + Print + Eprint>(
     let path = path_within(rt.alloc(), folder, name.as_str())?;
     if written.contains(&name) && (how.force || how.only_tells) {
         let path = Shown(path.as_str());
-        let _ = eprintln!(rt; "f11fs: {from}: {path} has been written by this command");
+        let _ = eprintln!(rt;
+            "f11fs: {from}: this command already wrote {path}; get this file to another TARGET"
+        );
         return Ok(Status::Host);
     }
     let done = keep(rt, from, contents, path.as_str(), changed, how)?;

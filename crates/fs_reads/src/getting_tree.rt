@@ -1,8 +1,8 @@
-//! `get -r`: the files in a directory and below it, in folders of the host that are named as the directories are.
+//! `get -r`: the files in a directory and below it, in host folders that are named like the directories.
 ghost use Rattle.std.specs.Prelude.{◌≡◌, ◌⊎◌, ◌∷◌, ◌++◌, ℕ, List, Option, [], IfErr, IfOk, OnOk, if◌then◌else◌, string_bytes, true};
 ghost use Rattle.std.specs.Borrow.{Bor};
 ghost use Rattle.std.specs.List.{All};
-ghost use Rattle.fs_reads.specs.{Ends.StopsWith, Ends.may_name, Gets.AreSaid, TreesGot.AreFilesIn, TreesGot.IsDepthOf, TreesGot.IsDirectoryGot, TreesGot.IsSaidAlone, TreesGot.IsTreeGot, TreesGot.host_folder, TreesGot.target_folder};
+ghost use Rattle.fs_reads.specs.{Ends.StopsWith, Ends.may_name, Gets.AreSaid, TreesGot.AreFilesIn, TreesGot.IsDepthOf, TreesGot.IsDirectoryGot, TreesGot.IsOwnFolder, TreesGot.IsSaidAlone, TreesGot.IsTreeGot, TreesGot.host_folder, TreesGot.target_folder};
 ghost use Rattle.fs_reads.specs.declared.stop.Stop.{Stop as End};
 ghost use Rattle.ods_paths.specs.Views.{folder as said_folder};
 ghost use Rattle.ods_shell.specs.{Contents.IsGot, Named.IsEntryOf, Passed.is_passed_over, Ways.AreMeant, Ways.CountAsClosed};
@@ -17,7 +17,7 @@ use crate::getting::{Destination, How, get_each, is_folder, split_words};
 use crate::printing::Reader;
 use crate::progress::Progress;
 use crate::rescue_tree::{folder_text, name_below};
-use crate::stop::{Stop, WordFault, stop_about};
+use crate::stop::{Stop, WordFault, say_about, stop_about};
 use fs_host::{HostFault, HostZone};
 use fs_words::Words;
 use ods_base::{Listed, Name};
@@ -27,13 +27,15 @@ use ods_shell::{
 };
 use ods_space::Disk;
 use std::alloc::{AllocError, Global};
+use std::collections::BTreeSet;
 use std::fs;
 use std::fs::File;
 use std::rt::Files;
 use std::time::Clock;
 
-/// `get -r`: the files in the one directory that the path says, and below it, in a folder of the host, which is made where it is not there. Each
-/// directory has a folder in it. Where a name has several versions all are got. With a zone each file of the host gets the creation date of its file.
+/// `get -r`: extracts the files in the one directory that the path specifies, and below it. The target is a host folder, which is created if it does
+/// not exist. Each directory below has a folder in it. All versions of a name are extracted. With a zone, each host file receives the creation date
+/// of its file.
 pub(crate) fn get_tree<'a, R: Files<File = File> + Clock + AllocGlobal + Print + Eprint>(
     rt: &R,
     disk: &Disk<'_>,
@@ -161,14 +163,17 @@ fn get_directories<'a, R: Files<File = File> + Clock + AllocGlobal + Print + Epr
     ensures status { IfOk result (λ s. may_name s ≡ true) }
     ensures done { IfOk result (λ s. s ≡ Code.Done → All (on IsDirectoryGot disk.now how.entry.reader.user (λ n. on IsGot disk.now n how.entry.wanted)) directories.now) }
 {
+    let mut taken = BTreeSet::new(rt.alloc());
     let mut status = Status::Done;
     for directory in directories {
-        status = status.or(get_directory(rt, disk, directory, depth, root, how, progress)?);
+        let done = get_directory(rt, disk, directory, depth, root, how, &mut taken, progress)?;
+        status = status.or(done);
     }
     Ok(status)
 }
 
-/// Gets the files in a directory, in its folder below `root`; with `only_tells` no folder is made.
+/// Gets the files in a directory, in a folder of its own below `root`; with `only_tells` no folder is made. If the host does not make a folder below
+/// `root`, that is said, and nothing is got from this directory.
 fn get_directory<'a, R: Files<File = File> + Clock + AllocGlobal + Print + Eprint>(
     rt: &R,
     disk: &Disk<'_>,
@@ -176,6 +181,7 @@ fn get_directory<'a, R: Files<File = File> + Clock + AllocGlobal + Print + Eprin
     depth: usize,
     root: &str,
     how: How<'_>,
+    taken: &mut BTreeSet<String>,
     progress: &mut Progress,
 ) -> Result<Status, Stop<'a>>
     requires { on FindsFiles disk.now }
@@ -184,12 +190,33 @@ fn get_directory<'a, R: Files<File = File> + Clock + AllocGlobal + Print + Eprin
 {
     let files = files_in(rt.alloc(), disk, directory)?;
     let names = directory.names.get(depth..).unwrap_or(&[]);
-    let folder = host_folder(rt.alloc(), root, names)?;
-    if !how.only_tells {
-        make_folder(rt, folder.as_str())?;
+    let said = host_folder(rt.alloc(), root, names)?;
+    let folder = own_folder(rt.alloc(), said, directory.number, taken)?;
+    if !how.only_tells && !make_folder(rt, folder.as_str(), names.is_empty())? {
+        return Ok(Status::Host);
     }
     let to = Destination::Folder(folder.as_str());
     get_each(rt, disk, &files, to, how, progress)
+}
+
+/// Returns the folder of the host for a directory: the one with this name, or if an earlier directory has it, as another version of the directory may,
+/// one whose name ends with the number of the directory's file.
+fn own_folder(
+    alloc: Global,
+    said: String,
+    number: u16,
+    taken: &mut BTreeSet<String>,
+) -> Result<String, AllocError>
+    ensures { IfOk result (λ folder. IsOwnFolder (string_bytes said) number (string_bytes folder)) }
+{
+    if taken.contains(&said) {
+        return format!(in alloc; "{said} #{number}");
+    }
+    let noted = String::from_str(alloc, said.as_str())?;
+    if taken.insert(noted).is_err() {
+        return Err(AllocError);
+    }
+    Ok(said)
 }
 
 /// The folder of the host below `root` of a directory to which these names lead from the first one.
@@ -204,18 +231,32 @@ fn host_folder(alloc: Global, root: &str, names: &[Name]) -> Result<String, Allo
     name_below(alloc, root, small.as_str())
 }
 
-/// Makes a folder of the host, where none is there.
-fn make_folder<'a, R: Files + AllocGlobal>(rt: &R, folder: &str) -> Result<(), Stop<'a>>
+/// Makes a folder of the host, unless it is there, and returns whether files can be written to it. A link is a folder only if it is the root of the tree.
+/// The error is for a root that the host does not make; for another folder that is said.
+fn make_folder<'a, R: Files + AllocGlobal + Eprint>(
+    rt: &R,
+    folder: &str,
+    is_root: bool,
+) -> Result<bool, Stop<'a>>
     ensures { IfErr result (λ stop. StopsWith stop Code.Host ⊎ (stop ≡ End.NoMemory)) }
 {
     let Err(error) = fs::create_dir(rt, folder) else {
-        return Ok(());
+        return Ok(true);
     };
-    if is_folder(fs::metadata(rt, folder)) {
-        return Ok(());
+    let found = if is_root {
+        fs::metadata(rt, folder)
+    } else {
+        fs::symlink_metadata(rt, folder)
+    };
+    if is_folder(found) {
+        return Ok(true);
     }
     let why = WordFault::Unmade(HostFault::of(&error));
-    Err(stop_about(rt.alloc(), folder, why, Status::Host))
+    if is_root {
+        return Err(stop_about(rt.alloc(), folder, why, Status::Host));
+    }
+    say_about(rt, folder, why);
+    Ok(false)
 }
 
 /// The files of a directory that are got: all but those that are passed over.

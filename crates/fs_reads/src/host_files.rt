@@ -1,4 +1,4 @@
-//! Files of the host that are written: whole under their names, or not at all.
+//! Files of the host that are written: complete under their names, or not at all.
 ghost use Rattle.std.specs.Prelude.{◌≡◌, IfErr, IsTrue};
 ghost use Rattle.fs_host.specs.Faults.{may_end_beginning};
 ghost use Rattle.fs_reads.specs.Host.{EndsFilling, EndsPouring, EndsWriting, IsFoundThere, WouldEnd, unseen_by};
@@ -11,13 +11,13 @@ use std::fs::{File, Metadata, OpenOptions};
 use std::os::unix::fs::{MetadataExt, fchown};
 use std::rt::Files;
 
-/// How the writing of a file ended.
+/// The result of writing a file.
 #[derive(Clone, Copy, Debug, PartialEq, Eq)]
 pub(crate) enum Written {
     Done,
-    /// A file is there that may not be replaced.
+    /// The existing file may not be replaced.
     IsThere,
-    /// No file can be made.
+    /// The file cannot be created.
     Unmade(HostFault),
     /// Writing failed.
     Failed(HostFault),
@@ -36,7 +36,7 @@ enum There {
     Closed(HostFault),
 }
 
-/// Whether a file could be written to this path, as far as is seen without writing.
+/// Returns whether a file could be written to this path, as far as it can be determined without writing.
 pub(crate) fn could_write<R: Files>(rt: &R, host: &str, replaces: bool) -> Written
     ensures { WouldEnd replaces result }
 {
@@ -47,8 +47,8 @@ pub(crate) fn could_write<R: Files>(rt: &R, host: &str, replaces: bool) -> Writt
     }
 }
 
-/// Writes what is got to this path: a new file, or with `replaces` one in place of a plain file that is there. A plain file gets this time of its last
-/// change in seconds since 1970, where one is said.
+/// Writes the contents to this path: to a new file, or with `replaces` to one that takes the place of an existing plain file. If `changed` is given,
+/// a plain file receives this modification time, in seconds since 1970.
 pub(crate) fn write_host<R: Files<File = File> + AllocGlobal>(
     rt: &R,
     contents: &Contents<'_>,

@@ -1,4 +1,4 @@
-//! `info`: what is known of the volume in an image, sound or not.
+//! `info`: the facts of the volume in an image, sound or not.
 ghost use Rattle.std.specs.Prelude.{◌≡◌, ◌⊎◌, IfOk, string_bytes};
 ghost use Rattle.fs_reads.specs.Infos.{EndsInfo, ShowsInfo, bytes_behind};
 ghost use Rattle.ods_mount.specs.Faults.{IsSound};
@@ -17,7 +17,8 @@ use std::alloc::{AllocError, Global};
 use std::fs::File;
 use std::rt::Files;
 
-/// `info` of the image at this path, of so many blocks where a number is given, in this order. Bytes behind the volume are said too where `tells_behind`.
+/// Prints the `info` of the image at this path, of `given` blocks if a number is given, in this order. With `tells_behind` also prints the bytes past
+/// the volume.
 pub fn info<'a, R: Files<File = File> + AllocGlobal + Print + Eprint>(
     rt: &R,
     path: &'a str,
@@ -38,7 +39,7 @@ pub fn info<'a, R: Files<File = File> + AllocGlobal + Print + Eprint>(
     }
 }
 
-/// How many bytes stand behind the volume, by what is to be said of its image.
+/// Returns how many bytes come past the volume, by the remark on its image.
 pub fn behind_by(extent: Option<Extent>) -> u64
     ensures { result ≡ bytes_behind extent }
 {
@@ -50,7 +51,7 @@ pub fn behind_by(extent: Option<Extent>) -> u64
     }
 }
 
-/// `info` of an image that was read from this path, behind whose volume so many bytes stand.
+/// Prints the `info` of an image that was read from this path. `behind` is the number of bytes past its volume.
 #[tactic(auto, using(crate::proofs::InfoEnds::ends_sound))]
 pub fn info_image<'a, R: Files<File = File> + AllocGlobal + Print + Eprint>(
     rt: &R,

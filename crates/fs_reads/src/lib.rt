@@ -1,6 +1,6 @@
-//! The commands of `f11fs` that only read: what a path finds and what is printed is settled by `ods_shell`; here are the files of the host, the
-//! streams and the statuses. Clauses say who may read what, what two images differ in, why there is no volume, with which status a command ends,
-//! and that a text keeps what it had. No clause covers what is printed and written: `tests/fs` checks it on the built program.
+//! The commands of `f11fs` that only read. `ods_shell` determines what a path finds and what is printed; this crate has the files of the host, the
+//! streams and the statuses. Clauses state who may read what, how two images differ, why there is no volume, the status of a command, and that a text
+//! keeps its earlier contents. No clause covers what is printed and written: `tests/fs` checks it on the built program.
 #![tactic(auto)]
 
 mod checking;
@@ -44,5 +44,5 @@ pub use obeying::{obey, show_space};
 pub use progress::Progress;
 pub use readable::{Readable, open_readable};
 pub use rescuing::rescue;
-pub use stop::{Stop, WordFault, say_end, send, stop_about};
-pub use volume::{VolumeFault, image_of, open_volume, say_extent, volume_of};
+pub use stop::{Stop, WordFault, say_end, send, stop_about, stop_at_own_output};
+pub use volume::{VolumeFault, image_of, lacks_blocks, open_volume, say_extent, volume_of};

@@ -12,7 +12,7 @@ use ods_shell::{Columns, FoundLines, PathFault, find_open, ls_lines, ls_objects}
 use ods_space::Disk;
 use std::alloc::{AllocError, Global};
 
-/// Appends what `ls` shows.
+/// Appends the output of `ls`.
 #[tactic(auto, using(crate::proofs::Growing::extends_pushed, crate::proofs::Growing::extends_on, crate::proofs::Growing::extends_same))]
 pub(crate) fn push_listings<'a>(
     alloc: Global,
@@ -92,7 +92,7 @@ fn push_lines(
     text.push_str(lines.as_str())
 }
 
-/// Whether a path finds nothing: no directory, or none of the files that are said; where a directory is closed something is there.
+/// Returns whether a path finds nothing: no directory, or with `says_files` no file. If a directory is closed, the path finds something.
 pub(crate) fn is_nothing(found: &FoundLines, says_files: bool) -> bool
     ensures { result ≡ (vec_len found.now.closed == 0) && ((vec_len found.now.directories == 0) || (says_files && (vec_len found.now.lines == 0))) }
 {

@@ -1,4 +1,4 @@
-//! The commands that read a volume, sound or not, and leave it as it is; and `df`, which wants a sound one.
+//! The commands that read a volume, sound or not, and leave it unchanged; and `df`, which requires a sound volume.
 ghost use Rattle.std.specs.Prelude.{string_bytes};
 ghost use Rattle.fs_reads.specs.Shown.{Extends};
 ghost use Rattle.ods_space.specs.Files.{FindsFiles};
@@ -26,7 +26,7 @@ use std::fs::File;
 use std::rt::{Env, Files};
 use std::time::Clock;
 
-/// Does what a command asks for on a volume.
+/// Runs a command on a volume.
 /// No clause covers what it prints and writes; `tests/fs` checks that on the built program.
 pub fn obey<'a, R: Files<File = File> + Clock + Env + AllocGlobal + Print + Eprint + Clone + Drop>(
     rt: &R,
@@ -128,7 +128,7 @@ fn push_shown<'a>(
     }
 }
 
-/// `df`: how much of a sound volume is used.
+/// `df`: prints how much of a sound volume is used.
 /// No clause covers what it prints; `tests/fs` checks that on the built program.
 pub fn show_space<'a, R: Files<File = File> + AllocGlobal + Print>(
     rt: &R,

@@ -1,4 +1,4 @@
-//! What a command prints line by line: in pieces, so that a long list is not kept.
+//! The lines that a command prints: in pieces, so that a long list is not held in memory.
 ghost use Rattle.std.specs.Prelude.{◌≡◌, ◌<◌, ◌++◌, ◌⊎◌, [], true, false, IfOk, OnOk, string_bytes};
 ghost use Rattle.fs_reads.specs.Shown.{StaysSaid};
 ghost use Rattle.ods_shell.specs.declared.status.Status.{Status as Code};
@@ -12,7 +12,7 @@ use std::fmt::Display;
 /// From how many bytes on a piece goes out.
 const PIECE: usize = 32_768;
 
-/// Lines, or objects, on their way to standard output.
+/// A buffer of lines, or objects, for standard output.
 #[derive(Drop)]
 pub(crate) struct Output {
     alloc: Global,
@@ -22,7 +22,7 @@ pub(crate) struct Output {
 }
 
 impl Output {
-    /// No lines yet.
+    /// Returns an output without lines.
     pub fn new(alloc: Global, json: bool) -> Output
         ensures { (result.is_empty ≡ true) × (string_bytes result.text ≡ []) × (result.json ≡ json) }
     {
@@ -34,14 +34,14 @@ impl Output {
         }
     }
 
-    /// Whether no line was printed.
+    /// Returns whether no line was printed.
     pub fn is_empty(&self) -> bool
         ensures { result ≡ self.now.is_empty }
     {
         self.is_empty
     }
 
-    /// A line; as an object it is the text of this name.
+    /// Prints a line, or an object with the line as the text of this name.
     pub fn say<'a, R: Print, D: Display + Drop>(
         &mut self,
         rt: &R,
@@ -61,7 +61,7 @@ impl Output {
         }
     }
 
-    /// A line about files, with their paths behind it; as an object it is the text of this name, and has the paths.
+    /// Prints a line about files, followed by their paths; or an object with the line as the text of this name, and the paths.
     pub fn say_about<'a, R: Print, D: Display + Drop>(
         &mut self,
         rt: &R,
@@ -77,7 +77,7 @@ impl Output {
         self.push(rt, told.as_str())
     }
 
-    /// How many lines are left out, where there are some, with the words behind that number; as an object it is the number of this name.
+    /// Prints how many lines are left out, if any, and these words after the number; or an object with the number of this name.
     pub fn say_more<'a, R: Print>(
         &mut self,
         rt: &R,
@@ -100,7 +100,7 @@ impl Output {
         self.push(rt, line.as_str())
     }
 
-    /// Whole lines.
+    /// Prints whole lines.
     pub fn push<'a, R: Print>(&mut self, rt: &R, lines: &str) -> Result<Status, Stop<'a>>
         ensures said { self.new.is_empty ≡ false }
         ensures text { OnOk result ((string_bytes self.new.text ≡ string_bytes self.old.text ++ lines.now) ⊎ (string_bytes self.new.text ≡ [])) }
@@ -114,7 +114,7 @@ impl Output {
         self.end(rt)
     }
 
-    /// What was not sent yet.
+    /// Sends the lines that were not sent yet.
     pub fn end<'a, R: Print>(&mut self, rt: &R) -> Result<Status, Stop<'a>>
         ensures text { string_bytes self.new.text ≡ [] }
         ensures same { self.new.is_empty ≡ self.old.is_empty }

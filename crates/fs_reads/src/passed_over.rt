@@ -1,4 +1,4 @@
-//! The entries of a refused volume that are passed over, since they are bad: which directories have some, and how many.
+//! The entries of a refused volume that are passed over because they are bad: the directories that have them, and how many.
 ghost use Rattle.std.specs.Prelude.{◌≡◌, IfOk, string_bytes};
 ghost use Rattle.fs_reads.specs.Told.{SaysPassed, bad_entries_text, is_no_directory as is_none, more_bad_entries, no_directory_text as none_text, one_bad_entry};
 ghost use Rattle.ods_mount.specs.Faults.{IsDirectoryFile};
@@ -14,8 +14,8 @@ use std::alloc::{AllocError, Global};
 /// Of so many directories a line is said. A hostile volume has 65,535.
 const MOST_DIRECTORIES: u32 = 100;
 
-/// Says of each directory of the image at this path how many of its entries are passed over, where there are some.
-/// No clause covers what it says; `tests/fs` checks that on the built program.
+/// Prints for each directory of the image at this path how many of its entries are passed over, if any.
+/// No clause covers what it prints; `tests/fs` checks that on the built program.
 pub(crate) fn say_passed_over<R: AllocGlobal + Eprint>(
     rt: &R,
     path: &str,

@@ -21,7 +21,7 @@ use ods_shell::{
 use ods_space::Disk;
 use std::io;
 
-/// Who reads, and whether remarks that are no faults are left out.
+/// The user who reads, and whether remarks that are not faults are left out.
 #[derive(Clone, Copy)]
 pub(crate) struct Reader {
     pub user: Option<Uic>,
@@ -29,7 +29,7 @@ pub(crate) struct Reader {
 }
 
 impl Reader {
-    /// The one that the words say.
+    /// Returns the reader that the words specify.
     pub fn of(words: &Words<'_>) -> Reader
         ensures { (result.user ≡ words.now.user) × (result.quiet ≡ words.now.quiet) }
     {
@@ -40,7 +40,7 @@ impl Reader {
     }
 }
 
-/// `cat`.
+/// Prints the files that the paths select (`cat`).
 pub(crate) fn cat<'a, R: AllocGlobal + Print + Eprint>(
     rt: &R,
     disk: &Disk<'_>,
@@ -117,8 +117,8 @@ fn add_found<'a, R: AllocGlobal + Eprint>(
     say_closed(rt, closed, user)
 }
 
-/// Adds the files that a path names; a path that names none, or two entries of one name, and a closed directory are said, and no
-/// fault of the command.
+/// Adds the files that a path selects. Prints a fault if it selects none or two entries with one name, or if a directory is closed; the command goes
+/// on.
 #[tactic(auto, using(crate::proofs::Statuses::closed_may, crate::proofs::Statuses::path_may, crate::proofs::Statuses::path_fault))]
 pub(crate) fn add_named<'a, R: AllocGlobal + Eprint>(
     rt: &R,
@@ -155,7 +155,7 @@ pub(crate) fn add_named<'a, R: AllocGlobal + Eprint>(
     }
 }
 
-/// Writes one file to standard output; a file that is refused is said, and no fault of the command.
+/// Writes one file to standard output. A refused file is reported; the command goes on.
 pub(crate) fn cat_file<'a, R: AllocGlobal + Print + Eprint>(
     rt: &R,
     disk: &Disk<'_>,
@@ -180,7 +180,7 @@ pub(crate) fn cat_file<'a, R: AllocGlobal + Print + Eprint>(
     }
 }
 
-/// Says what is to be remarked of what is got out of a file.
+/// Prints the remark on the contents of a file, if there is one and `quiet` is false.
 pub(crate) fn say_remark<R: Eprint>(rt: &R, path: &str, remark: &Option<Remark>, quiet: bool) {
     if let Some(remark) = remark {
         if !quiet {
@@ -189,7 +189,7 @@ pub(crate) fn say_remark<R: Eprint>(rt: &R, path: &str, remark: &Option<Remark>,
     }
 }
 
-/// Says why nothing is got out of a file, and gives the status for that. Where memory is refused the command ends.
+/// Prints why nothing is read from a file, and returns the status. If memory is refused the command ends.
 pub(crate) fn say_unread<'a, R: Eprint>(
     rt: &R,
     path: &str,

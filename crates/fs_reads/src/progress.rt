@@ -1,4 +1,4 @@
-//! Progress of a command on standard error: how much of it is done, in a line that the next one is written over.
+//! Progress of a command on standard error, in a line that the next line overwrites.
 ghost use Rattle.std.specs.Prelude.{◌≡◌, false};
 ghost use Rattle.fs_reads.specs.Shown.{IsUnseen};
 
@@ -10,18 +10,17 @@ const FIRST: u128 = 1_000;
 /// How many milliseconds lie between two lines.
 const BETWEEN: u128 = 200;
 
-/// The progress of a command. Its line is shorter than any line of a fault, and the cursor stands at its start, so that a fault is
-/// written over it.
+/// The progress of a command. Its line is shorter than any line of a fault, and the cursor is at its start. Therefore a fault overwrites it.
 #[derive(Drop)]
 pub struct Progress {
-    /// When the command began; `None` where no progress is shown.
+    /// When the command began; `None` if no progress is shown.
     start: Option<Instant>,
-    /// How many milliseconds after that the next line is shown.
+    /// When the next line is shown, in milliseconds after the command began.
     next: u128,
 }
 
 impl Progress {
-    /// That of a command that begins; nothing is ever shown where none is wanted.
+    /// Returns the progress of a command that begins. Nothing is ever shown unless `is_wanted`.
     pub fn begin(clock: &impl Clock, is_wanted: bool) -> Progress
         ensures { is_wanted ≡ false → IsUnseen result }
     {
@@ -33,7 +32,7 @@ impl Progress {
         Progress { start, next: FIRST }
     }
 
-    /// That of a command whose progress nobody sees.
+    /// Returns the progress of a command that never shows any.
     pub fn none() -> Progress
         ensures { IsUnseen result }
     {
@@ -43,7 +42,7 @@ impl Progress {
         }
     }
 
-    /// So many parts of all are done.
+    /// Shows that `done` parts of `all` are done, if the next line is due.
     pub fn show<R: Clock + Eprint>(&mut self, rt: &R, done: u64, all: u64)
         ensures { IsUnseen self.old → self.new ≡ self.old }
     {
@@ -62,7 +61,7 @@ impl Progress {
         let _ = eprint!(rt; "f11fs: {percent}%\r");
     }
 
-    /// The command is done: a line that is shown is taken away.
+    /// Ends the command, and removes a line that is shown.
     pub fn end<R: Eprint>(&self, rt: &R) {
         if self.next != FIRST {
             let _ = eprint!(rt; "           \r");

@@ -1,4 +1,4 @@
-//! The volume of an image that is read, sound or not: a command goes on where the home block and INDEXF.SYS lead to files.
+//! The volume of an image that is read, sound or not. A command goes on if the home block and INDEXF.SYS locate files.
 ghost use Rattle.std.specs.Prelude.{◌≡◌, ◌≢◌, IfErr, IfOk};
 ghost use Rattle.ods_mount.specs.Faults.{FaultIsTrue};
 ghost use Rattle.fs_reads.specs.{Readable.IsJudged, Readable.LacksLayout, Readable.Opened, Volumes.IsNoVolume};
@@ -17,7 +17,7 @@ use std::fs::File;
 use std::marker::Model;
 use std::rt::Files;
 
-/// An image with its layout, whether a mount takes it, and how many bytes of the host's file stand behind the volume.
+/// An image with its layout, whether a mount accepts it, and how many bytes of the host file come past the volume.
 #[derive(Drop)]
 pub struct Readable {
     image: Image,
@@ -57,7 +57,7 @@ impl Readable {
         }
     }
 
-    /// The image with its layout.
+    /// Returns the image with its layout.
     pub fn disk(&self) -> Disk<'_>
         ensures image { result.image.now ≡ self.now.image }
         ensures layout { result.layout.now ≡ self.now.layout }
@@ -69,14 +69,14 @@ impl Readable {
         }
     }
 
-    /// How many bytes of the image stand behind the volume.
+    /// Returns how many bytes of the image come past the volume.
     pub fn behind(&self) -> u64
         ensures { result ≡ self.now.behind }
     {
         self.behind
     }
 
-    /// The status of a command that showed all that it could, and ended with this one.
+    /// Returns the status of a command that showed all that it could, and ended with `done`. A refused image comes first.
     pub fn ends(&self, done: Status) -> Status
         ensures { result ≡ end_of self.now.sound done }
     {
@@ -84,8 +84,8 @@ impl Readable {
     }
 }
 
-/// The volume of the image at this path, of so many blocks where a number is given. Why a mount refuses it is said first, and which directories have
-/// entries that are passed over. Where INDEXF.SYS has a whole chain the command goes on, and BITMAP.SYS is not asked.
+/// Opens the volume of the image at this path, of `given` blocks if a number is given. First prints why a mount refuses it, and which directories
+/// have entries that are passed over. If INDEXF.SYS has a whole chain the command goes on, and BITMAP.SYS is not needed.
 pub fn open_readable<'a, R: Files<File = File> + AllocGlobal + Eprint>(
     rt: &R,
     path: &'a str,

@@ -1,4 +1,4 @@
-//! What is got out of a file that a user may read, and why nothing is.
+//! The contents of a file that a user may read, or why there are none.
 ghost use Rattle.std.specs.Prelude.{ℕ, List, IfErr, IfOk, IfSome, IsSome, OnOk};
 ghost use Rattle.ods_shell.specs.{Contents.IsGot, Contents.IsNotGot, Shown.ContentsAre};
 ghost use Rattle.fs_reads.specs.Denied.{IsDenied, IsUnread, MayRead};
@@ -12,18 +12,18 @@ use ods_space::Disk;
 use std::alloc::Global;
 use thiserror::Error;
 
-/// Why nothing is got out of a file.
+/// Why nothing is read from a file.
 #[derive(Clone, Copy, Debug, PartialEq, Eq, Error)]
 pub(crate) enum Unread {
-    /// This user may not read it.
+    /// The user may not read it.
     #[error("denied to [{group:o},{member:o}]", group = .0.group, member = .0.member)]
     Denied(Uic),
-    /// It has not what is wanted.
+    /// It does not have the requested form.
     #[error("{0}")]
     Form(FormFault),
 }
 
-/// Why this user may not read a file, where a user is said.
+/// Checks whether the user may read a file. Without a user every file is readable.
 pub(crate) fn check_right(facts: &Facts, user: Option<Uic>) -> Result<(), Unread>
     ensures ok { OnOk result (MayRead user facts.now) }
     ensures err { IfErr result (IsDenied user facts.now) }
@@ -37,7 +37,7 @@ pub(crate) fn check_right(facts: &Facts, user: Option<Uic>) -> Result<(), Unread
     Err(Unread::Denied(user))
 }
 
-/// What is got out of a file that this user may read.
+/// Returns the contents of a file that this user may read.
 pub(crate) fn open_found<'a>(
     alloc: Global,
     disk: &Disk<'a>,

@@ -1,4 +1,4 @@
-//! The folder of the host that a rescue writes to: one that is made, or one that is there and empty, and stays as it is.
+//! The folder of the host that a rescue writes to: a new one, or an existing empty one, which is not replaced.
 ghost use Rattle.std.specs.Prelude.{◌≡◌, IfErr};
 ghost use Rattle.fs_reads.specs.{Ends.StopsWith, Folders.has_name, Folders.is_name};
 ghost use Rattle.ods_shell.specs.declared.status.Status.{Status as Code};
@@ -12,7 +12,7 @@ use std::rt::Files;
 /// How many bytes of names are read at once: more than the longest name has.
 const PIECE: usize = 4096;
 
-/// Makes the folder, or takes one that is there and empty. With `only_tells` none is made.
+/// Creates the folder, or accepts an existing empty one. With `only_tells` no folder is created. Otherwise fails with `NotEmpty` or `Unmade`.
 pub(crate) fn take_folder<'a, R: Files + AllocGlobal>(
     rt: &R,
     folder: &'a str,

@@ -1,4 +1,4 @@
-//! The image of a rescue, which may end within a block.
+//! The image of a rescue, which can end within a block.
 ghost use Rattle.std.specs.Prelude.{◌≡◌, ◌<◌, IfErr, IfOk, MatchResult, Ok};
 ghost use Rattle.fs_reads.specs.Volumes.{IsNoVolume, IsNotRead};
 ghost use Rattle.fs_reads.specs.declared.volume.VolumeFault.{VolumeFault as Fault};
@@ -15,8 +15,8 @@ use std::rt::Files;
 /// The bytes of a block.
 const BLOCK: u64 = 512;
 
-/// The volume in the image at this path, of so many blocks where a number is given; or else its whole blocks, and how many bytes stand
-/// behind them.
+/// Reads the volume in the image at this path, of `given` blocks if a number is given. If it is not a valid image, reads its whole blocks and returns
+/// how many bytes come after them, at most 511. The same holds for a stream or a device.
 pub(crate) fn read_whole_blocks<'a, R: Files<File = File> + AllocGlobal + Eprint>(
     rt: &R,
     path: &'a str,

@@ -1,4 +1,4 @@
-//! Where a rescue puts a file: below the folders of the directories whose names lead to it. Folders are made as files come.
+//! The host path of a rescued file: below the folders of the directories whose names reach it. Folders are created as files arrive.
 ghost use Rattle.std.specs.Prelude.{◌≡◌, ◌⊎◌, ◌++◌, string_bytes, IfErr, IfOk, OnOk};
 ghost use Rattle.std.specs.List.{flat_map};
 ghost use Rattle.fs_reads.specs.{Ends.StopsWith, Trees.folder_name, Trees.folder_text as text_of_folder, Trees.name_below as text_below, Trees.slashed};
@@ -25,7 +25,7 @@ fn push_folder(text: &mut String, name: &Name) -> Result<(), AllocError>
     }
 }
 
-/// The folders on the way to a directory to which these names lead, with slashes between them; nothing for the master directory.
+/// Returns the folders of a directory that these names reach, with slashes between them. The text is empty for the master directory.
 pub(crate) fn folder_text(alloc: Global, names: &[Name]) -> Result<String, AllocError>
     ensures { IfOk result (λ text. string_bytes text ≡ text_of_folder names.now) }
 {
@@ -49,7 +49,7 @@ fn push_slashed(text: &mut String, names: &[Name]) -> Result<(), AllocError>
     Ok(())
 }
 
-/// A name in a folder; where the folder is empty the name alone.
+/// Returns a name in a folder, or only the name if the folder is empty.
 pub(crate) fn name_below(alloc: Global, folder: &str, name: &str) -> Result<String, AllocError>
     ensures { IfOk result (λ text. string_bytes text ≡ text_below folder.now name.now) }
 {
@@ -59,7 +59,7 @@ pub(crate) fn name_below(alloc: Global, folder: &str, name: &str) -> Result<Stri
     format!(in alloc; "{folder}/{name}")
 }
 
-/// Makes the folders on the way to a directory below the folder `root` of the host, but for those that are made.
+/// Creates the folders on the way to a directory below the host folder `root`, except the folders that `made` contains.
 pub(crate) fn make_way<'a, R: Files + AllocGlobal>(
     rt: &R,
     root: &str,
@@ -75,7 +75,7 @@ pub(crate) fn make_way<'a, R: Files + AllocGlobal>(
     Ok(())
 }
 
-/// Makes a folder below `root`, where that is not done.
+/// Creates a folder below `root`, unless `made` contains it.
 pub(crate) fn make_once<'a, R: Files + AllocGlobal>(
     rt: &R,
     root: &str,

@@ -1,4 +1,4 @@
-//! The way of a file that is rescued: the directories and the name that lead to it, or the folder of the lost ones; and what is kept so far.
+//! How a rescued file is reached: by directories and a name, or in the folder of the lost files. Also the state of a rescue.
 ghost use Rattle.std.specs.Prelude.{◌≡◌, ◌⊎◌, IfErr, IfOk, true, not, set, slice_index_or, string_bytes};
 ghost use Rattle.fs_reads.specs.{Ends.StopsWith, Trees.name_of_way, Trees.told_of_way};
 ghost use Rattle.fs_reads.specs.declared.stop.Stop.{Stop as End};
@@ -14,19 +14,19 @@ use std::rt::Files;
 /// The folder of the files that no walk reaches.
 const LOST: &str = "lost";
 
-/// What is kept of a rescue so far.
+/// The state of a rescue so far.
 #[derive(Drop)]
 pub(crate) struct Kept {
-    /// The names that are taken, below the folder of the rescue.
+    /// The names in use, below the folder of the rescue.
     pub names: BTreeSet<String>,
-    /// The folders that are made below it.
+    /// The folders created below it.
     pub folders: BTreeSet<String>,
-    /// Of each number, whether its file is copied, or is left.
+    /// For each file number, whether its file is copied or left out.
     pub numbers: Vec<bool>,
 }
 
 impl Kept {
-    /// Whether this number comes for the first time, which is noted.
+    /// Marks this number as taken, and returns whether it was not marked before. Returns false for a number past the last.
     pub fn takes(&mut self, number: u16) -> bool
         ensures first { result ≡ not (slice_index_or self.old.numbers.items number true) }
         ensures noted { self.new.numbers.items ≡ set self.old.numbers.items number true }
@@ -46,14 +46,14 @@ impl Kept {
 /// How a file is reached.
 #[derive(Clone, Copy)]
 pub(crate) enum Way<'b> {
-    /// By the names of directories, and by this name.
+    /// By the names of directories, and this name.
     To(&'b [Name], &'b str),
-    /// By none.
+    /// By no name: the file is lost.
     Lost,
 }
 
 impl Way<'_> {
-    /// The name of the file below the folder of the rescue; `own` is the name in its header.
+    /// Returns the name of the file below the folder of the rescue. `own` is the name in its header, which only a lost file has.
     pub fn name(&self, alloc: Global, own: &str) -> Result<String, AllocError>
         ensures { IfOk result (λ text. string_bytes text ≡ name_of_way self.now own.now) }
     {
@@ -66,7 +66,7 @@ impl Way<'_> {
         }
     }
 
-    /// What a line says the file is: its name and its ID, or its ID alone.
+    /// Returns the text for the file in a line: its name and its ID, or only its ID.
     pub fn told(&self, alloc: Global, file: FileId) -> Result<String, AllocError>
         ensures { IfOk result (λ text. string_bytes text ≡ told_of_way self.now file) }
     {
@@ -80,7 +80,7 @@ impl Way<'_> {
         }
     }
 
-    /// Makes the folders that lead to the file, below that of the rescue, but for those that are made.
+    /// Creates the folders of the file below the folder of the rescue, except the folders that `made` contains.
     pub fn make<'a, R: Files + AllocGlobal>(
         &self,
         rt: &R,

@@ -1,4 +1,4 @@
-//! `rescue`: each file whose own chain is whole, copied out of an image that may be refused.
+//! `rescue`: each file whose own chain is whole, copied out of an image that a mount may refuse.
 ghost use Rattle.std.specs.Prelude.{◌≡◌, ◌⊎◌, IfNone, IfOk, IfSome};
 ghost use Rattle.fs_reads.specs.Ends.{StopsWith};
 ghost use Rattle.ods_shell.specs.declared.status.Status.{Status as Code};
@@ -13,7 +13,7 @@ use crate::rescue_folder::take_folder;
 use crate::rescue_image::read_whole_blocks;
 use crate::rescue_way::{Kept, Way};
 use crate::scanning::rescue_scanned;
-use crate::stop::{Stop, send, stop_about, stop_at_own_output};
+use crate::stop::{Stop, say_end, send, stop_about, stop_at_own_output};
 use fs_host::{HostFault, Layers, SaveFault, Shown};
 use fs_words::Words;
 use ods_base::{FileId, Image, Listed, print_name};
@@ -39,18 +39,18 @@ const NUMBERS: usize = 65536;
 /// How files are copied.
 #[derive(Clone, Copy)]
 pub(crate) struct How<'a> {
-    /// The folder of the host that they are written to.
+    /// The host folder that receives the files.
     pub folder: &'a str,
-    /// Whether records become lines where they are whole.
+    /// Whether records become lines if they are whole.
     pub text: bool,
-    /// Whether of a file that lacks headers or blocks what is there is copied.
+    /// Whether the available part of a file is copied if headers or blocks are missing.
     pub partial: bool,
-    /// Whether nothing is written, and it is told what would be.
+    /// Whether the command only prints what it would write.
     pub only_tells: bool,
     pub json: bool,
 }
 
-/// `rescue` into the folder of the first word. With `scan`, and where no layout leads to the headers, the files are those that a scan finds.
+/// `rescue` into the folder that the first word specifies. With `scan`, or if no layout locates the headers, a scan finds the files.
 pub fn rescue<'a, R: Files<File = File> + Clock + AllocGlobal + Print + Eprint>(
     rt: &R,
     words: &Words<'a>,
@@ -78,23 +78,45 @@ pub fn rescue<'a, R: Files<File = File> + Clock + AllocGlobal + Print + Eprint>(
         say_rest(rt, path, rest, how.json)?;
         status = Status::Found;
     }
-    let first = check_first(rt.alloc(), &image)?;
+    let done = rescue_image(rt, path, &image, how, scan, progress)?;
+    Ok(status.or(done))
+}
+
+/// Copies the files of an image: those that its layout finds, or with `scan`, or if there is no layout, those that a scan finds.
+fn rescue_image<'a, R: Files<File = File> + Clock + AllocGlobal + Print + Eprint>(
+    rt: &R,
+    path: &'a str,
+    image: &Image,
+    how: How<'a>,
+    scan: bool,
+    progress: &mut Progress,
+) -> Result<Status, Stop<'a>> {
+    let first = check_first(rt.alloc(), image)?;
     if let Some(fault) = &first.answer {
         let fault = format!(in rt.alloc(); "{fault}")?;
         say_fault(rt, path, fault.as_str(), how.json)?;
     }
-    if !scan {
-        let found = layout_for(rt.alloc(), &image, first.layout)?;
-        if let Some(layout) = &found {
-            take_folder(rt, how.folder, how.only_tells)?;
-            let disk = Disk {
-                image: &image,
-                layout,
-            };
-            return Ok(status.or(rescue_all(rt, &disk, how, progress)?));
-        }
+    if scan {
+        return rescue_scanned(rt, path, image, how, progress);
     }
-    Ok(status.or(rescue_scanned(rt, path, &image, how, progress)?))
+    match layout_for(rt.alloc(), image, first.layout)? {
+        Some(layout) => rescue_laid_out(rt, image, &layout, how, progress),
+        None => rescue_scanned(rt, path, image, how, progress),
+    }
+}
+
+/// Copies the files that the layout of an image finds.
+fn rescue_laid_out<'a, R: Files<File = File> + Clock + AllocGlobal + Print + Eprint>(
+    rt: &R,
+    image: &Image,
+    layout: &Layout,
+    how: How<'a>,
+    progress: &mut Progress,
+) -> Result<Status, Stop<'a>>
+    requires { FindsFiles image.now layout.now }
+{
+    take_folder(rt, how.folder, how.only_tells)?;
+    rescue_all(rt, &Disk { image, layout }, how, progress)
 }
 
 /// The layout by which files are found: the one that is known, or what INDEXF.SYS alone says.
@@ -281,19 +303,19 @@ fn say_rest<'a, R: AllocGlobal + Print>(
 {
     let path = Shown(path);
     let line = format!(in rt.alloc();
-        "{path}: {rest} bytes behind the last whole block are left\n"
+        "{path}: {rest} bytes after the last whole block are left out\n"
     )?;
-    let what = format!(in rt.alloc(); "{rest} bytes behind the last whole block")?;
+    let what = format!(in rt.alloc(); "{rest} bytes after the last whole block")?;
     say_left(
         rt,
         what.as_str(),
-        "they are no whole block",
+        "they are not a whole block",
         line.as_str(),
         json,
     )
 }
 
-/// A line of the fault that a mount answers.
+/// Prints a line, or an object, for the fault that a mount reports.
 pub(crate) fn say_fault<'a, R: AllocGlobal + Print>(
     rt: &R,
     path: &str,
@@ -311,7 +333,7 @@ pub(crate) fn say_fault<'a, R: AllocGlobal + Print>(
     send(rt, line.as_str())
 }
 
-/// A line, or an object, for what is left.
+/// Prints a line, or an object, for something that is left out.
 pub(crate) fn say_left<'a, R: AllocGlobal + Print>(
     rt: &R,
     what: &str,
@@ -328,7 +350,7 @@ pub(crate) fn say_left<'a, R: AllocGlobal + Print>(
     send(rt, line)
 }
 
-/// A line, or an object, for a file of which something is missing, and which is copied all the same.
+/// Prints a line, or an object, for a file that is copied although a part of it is missing.
 pub(crate) fn say_part<'a, R: AllocGlobal + Print>(
     rt: &R,
     what: &str,
@@ -417,16 +439,19 @@ fn keep_below<'a, R: Files<File = File> + AllocGlobal + Print + Eprint>(
     way: Way<'_>,
     kept: &mut Kept,
 ) -> Result<Status, Stop<'a>>
-    ensures { IfOk result (λ s. s ≡ Code.Done) }
+    ensures { IfOk result (λ s. (s ≡ Code.Done) ⊎ (s ≡ Code.Found)) }
 {
-    if !how.only_tells {
-        way.make(rt, how.folder, &mut kept.folders)?;
+    if !how.only_tells
+        && let Err(stop) = way.make(rt, how.folder, &mut kept.folders)
+    {
+        return leave_unwritten(rt, stop);
     }
     let name = way.name(rt.alloc(), name.as_str())?;
     keep(rt, how, file, name, contents, &mut kept.names)
 }
 
-/// Writes what is got out of a file into a new file of the folder, under its name, or with its ID behind that where the name is taken.
+/// Writes the contents of a file to a new file of the folder, under its name. If the name is taken, the ID is appended to the name. With `only_tells`
+/// only prints what it would write.
 pub(crate) fn keep<'a, R: Files<File = File> + AllocGlobal + Print + Eprint>(
     rt: &R,
     how: How<'_>,
@@ -435,7 +460,7 @@ pub(crate) fn keep<'a, R: Files<File = File> + AllocGlobal + Print + Eprint>(
     contents: &Contents<'_>,
     taken: &mut BTreeSet<String>,
 ) -> Result<Status, Stop<'a>>
-    ensures { IfOk result (λ s. s ≡ Code.Done) }
+    ensures { IfOk result (λ s. (s ≡ Code.Done) ⊎ (s ≡ Code.Found)) }
 {
     let name = if taken.contains(&name) {
         format!(in rt.alloc(); "{} #{},{}", name.as_str(), file.number, file.sequence)?
@@ -448,7 +473,12 @@ pub(crate) fn keep<'a, R: Files<File = File> + AllocGlobal + Print + Eprint>(
     } else {
         let written = write_host(rt, contents, path.as_str(), None, false);
         if written != Written::Done {
-            return Err(stop_unwritten(rt.alloc(), path.as_str(), written));
+            let stop = stop_unwritten(rt.alloc(), path.as_str(), written);
+            return if has_no_room(written) {
+                Err(stop)
+            } else {
+                leave_unwritten(rt, stop)
+            };
         }
         let line = if how.json {
             text_object(rt.alloc(), "rescued", name.as_str())?
@@ -480,6 +510,27 @@ fn tell<'a, R: AllocGlobal + Print>(
         format!(in rt.alloc(); "rescue {} to {path}\n", from.as_str())?
     };
     send(rt, line.as_str())
+}
+
+/// Whether the disk of the host is full, so that it takes no other file either.
+fn has_no_room(written: Written) -> bool {
+    matches!(
+        written,
+        Written::Unmade(HostFault::NoRoom) | Written::Failed(HostFault::NoRoom)
+    )
+}
+
+/// Prints why the host does not take a file, which is left. Any other stop ends the rescue.
+fn leave_unwritten<'a, R: Eprint>(rt: &R, stop: Stop<'a>) -> Result<Status, Stop<'a>>
+    ensures { IfOk result (λ s. s ≡ Code.Found) }
+{
+    match stop {
+        Stop::Lines(_, Status::Host) => {
+            let _ = say_end(rt, Err(stop));
+            Ok(Status::Found)
+        }
+        stop => Err(stop),
+    }
 }
 
 /// The end of a rescue that does not write a file.

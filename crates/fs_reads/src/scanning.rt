@@ -1,4 +1,4 @@
-//! `rescue --scan`: each file whose first header is still there, copied by its headers alone.
+//! `rescue --scan`: each file whose first header still exists, copied by only its headers.
 ghost use Rattle.std.specs.Prelude.{◌≡◌, ◌⊎◌, ◌<◌, ◌+◌, ◌-◌, min, if◌then◌else◌, length, string_bytes, IfOk};
 ghost use Rattle.ods_remains.specs.Scanned.{IsScanned};
 ghost use Rattle.fs_reads.specs.Scans.{id_text, placed_name, status_lacking};
@@ -22,13 +22,13 @@ use std::time::Clock;
 const TIMES: u64 = 64;
 
 /// What is said of an image where a scan finds nothing.
-const NONE: &str = "no header of a file is there";
+const NONE: &str = "the image has no file header";
 
 /// Why a file is left that names more than the image has.
 const MANY: &str = "it has more headers and blocks than the image has blocks";
 
 /// Why a file is left where the files before it have all that is copied.
-const FULL: &str = "the files before it have 64 times the blocks of the image";
+const FULL: &str = "the files copied before it have 64 times the blocks of the image";
 
 /// Copies each file that a scan of the image finds.
 pub(crate) fn rescue_scanned<'a, R: Files<File = File> + Clock + AllocGlobal + Print + Eprint>(
@@ -133,7 +133,8 @@ fn keep_scanned<'a, R: Files<File = File> + AllocGlobal + Print + Eprint>(
     let kept = say_missing(rt, place.as_str(), found.missing, how.json)?;
     let id = named.file;
     let name = choose_name(named.name, place, has_twin);
-    Ok(kept.or(keep(rt, how, id, name, contents, taken)?))
+    let done = keep(rt, how, id, name, contents, taken)?;
+    Ok(kept.or(done))
 }
 
 /// The name of a file, or its name and place where another first header has its number.

@@ -1,4 +1,4 @@
-//! `stat`: what is known of files.
+//! `stat`: the facts of files.
 ghost use Rattle.std.specs.Prelude.{ℕ, List, ◌⊎◌, IfErr, IfOk, string_bytes};
 ghost use Rattle.ods_shell.specs.declared.status.Status.{Status as Code};
 ghost use Rattle.ods_shell.specs.Ways.{CountAsClosed};
@@ -16,7 +16,7 @@ use ods_shell::{
 use ods_space::{Disk, reach_blocks};
 use std::alloc::Global;
 
-/// Appends what `stat` shows.
+/// Appends the output of `stat`.
 #[tactic(auto, using(crate::proofs::Growing::extends_pushed, crate::proofs::Growing::extends_on, crate::proofs::Growing::extends_same))]
 pub(crate) fn push_stats<'a>(
     alloc: Global,

@@ -1,4 +1,4 @@
-//! Why a command ends before it is done: what is said of that on standard error, and the exit status. `say_end` alone says it.
+//! Why a command ends early: its text on standard error, and its exit status. Only `say_end` prints it.
 ghost use Rattle.std.specs.Prelude.{◌≡◌, ◌⊎◌, IfOk, IfErr, IfSome};
 ghost use Rattle.fs_reads.specs.Ends.{EndsPrinting, EndsWith, HasWordStatus, SaysLine, StopsWith, about_line, two_entries};
 ghost use Rattle.fs_reads.specs.declared.stop.Stop.{Stop as End};
@@ -16,14 +16,14 @@ use std::rt::Files;
 use std::{fs, io};
 use thiserror::Error;
 
-/// Why a command does not go on. What is said of it is still to be written.
+/// Why a command ends early. Its text is not printed yet.
 #[derive(Drop)]
 pub enum Stop<'a> {
-    /// A path, and why it names nothing.
+    /// A path, and why it selects nothing.
     Path(&'a str, PathFault),
-    /// A word of the command, and what is wrong with it.
+    /// A word of the command, and its fault.
     Word(&'a str, WordFault),
-    /// The bytes at this path are no image.
+    /// The bytes at this path are not a valid or sound image.
     Image(&'a str, VolumeFault),
     /// This user may not read the names of the directory with this number.
     Closed(u16, Uic),
@@ -31,7 +31,7 @@ pub enum Stop<'a> {
     Unwritten(HostFault),
     /// The image is saved, and then writing to standard output failed for this reason.
     SavedUnwritten(HostFault),
-    /// The host's clock says no time.
+    /// The host clock has no time.
     NoTime,
     /// The allocator refused memory.
     NoMemory,
@@ -51,61 +51,64 @@ impl<'a> From<AllocError> for Stop<'a> {
 const TWO_ENTRIES: &str =
     "two entries have this name; 'find' lists their IDs, and '#N,S' says which is meant";
 
-/// What is wrong with a word of a command.
+/// The fault of a word of a command.
 #[derive(Clone, Copy, Debug, PartialEq, Eq, Error)]
 pub enum WordFault {
     /// Reading this file of the host failed.
     #[error("reading failed: {0}")]
     Unread(HostFault),
-    /// Standard output is appended to this image.
+    /// Standard output is this image.
     #[error("standard output is the image; send it elsewhere")]
     OwnOutput,
     /// Several files would be written to this file of the host.
-    #[error("no folder")]
+    #[error("it is not a folder, and the command needs one")]
     NoFolder,
-    /// Files, several directories or an ID, where one directory is wanted.
-    #[error("one directory is wanted: -r copies the files in it and below it")]
+    /// Files, several directories or an ID, when one directory is required.
+    #[error("-r needs exactly one directory: it copies the files in and below it")]
     OneDirectory,
-    /// A folder with names, or something else, is there.
-    #[error("an empty folder, or none, is wanted there")]
+    /// The target is a folder with names, or is not a folder.
+    #[error("it exists and is not an empty folder; give a new folder")]
     NotEmpty,
-    /// The host does not make this folder.
+    /// The host cannot create this folder.
     #[error("the folder cannot be made: {0}")]
     Unmade(HostFault),
-    /// The image is not locked, or not saved.
+    /// The image cannot be locked or saved.
     #[error("{0}")]
     Unsaved(SaveFault),
-    /// The image would be saved, and is shorter than its volume.
-    #[error("the image is shorter than its volume; --force writes it whole")]
+    /// The image to save is shorter than its volume.
+    #[error("the image is shorter than its volume; --force adds zeros for the missing blocks")]
     Short,
-    /// The image has another size than a floppy of the order that is said, which has so many bytes.
+    /// The image would be changed, and its file ends before a block of a file of the volume.
+    #[error("the image ends before blocks of files; 'check --all' lists these files, 'rescue' copies the others")]
+    Lacking,
+    /// The image size differs from the size of a floppy in the specified order, given in bytes.
     #[error("OtherSize: a floppy in this order has {0} bytes; another --order may fit")]
     OtherSize(usize),
-    /// A file of commands is no text.
-    #[error("no UTF-8 text")]
+    /// A file of commands is not valid text.
+    #[error("it is not UTF-8 text")]
     NoText,
-    /// A file of commands has more bytes than this.
+    /// A file of commands has more bytes than this limit.
     #[error("a file of commands has at most {0} bytes")]
     ManyBytes(u64),
-    /// No label of a volume.
-    #[error("no label: 1 to 12 of A to Z, 0 to 9 and dots")]
+    /// The label is not valid for a volume.
+    #[error("not a valid label: use 1 to 12 of A to Z, 0 to 9 and dots")]
     NoLabel,
-    /// A new floppy of the order that is said has so many blocks, and another number is said.
+    /// The specified number of blocks differs from this number, the size of a new floppy in the specified order.
     #[error("a floppy in this order has {0} blocks")]
     OtherBlocks(u32),
-    /// Standard input is put, and no path of the volume is said.
-    #[error("standard input wants a PATH")]
+    /// Standard input is put, and no path on the volume is given.
+    #[error("standard input needs a PATH")]
     NoPath,
-    /// A file of the host with so many bytes, where the free blocks hold so many.
+    /// A host file with the first number of bytes. The free blocks hold only the second number of bytes.
     #[error("VolumeFull: it has {0} bytes, and the free blocks of the volume hold {1}")]
     Large(u64, u64),
-    /// A stream with more bytes than the free blocks hold.
+    /// A stream with more bytes than this number, which the free blocks hold.
     #[error("VolumeFull: it has more bytes than the {0} that the free blocks of the volume hold")]
     LargeStream(u64),
 }
 
 impl WordFault {
-    /// The exit status of a command that ends so.
+    /// Returns the exit status for this fault.
     pub fn status(&self) -> Status
         ensures { HasWordStatus self.now result }
     {
@@ -118,9 +121,10 @@ impl WordFault {
             | WordFault::OtherBlocks(_)
             | WordFault::OtherSize(_)
             | WordFault::NoPath => Status::Words,
-            WordFault::Short | WordFault::Large(_, _) | WordFault::LargeStream(_) => {
-                Status::Refused
-            }
+            WordFault::Short
+            | WordFault::Lacking
+            | WordFault::Large(_, _)
+            | WordFault::LargeStream(_) => Status::Refused,
             WordFault::Unread(_)
             | WordFault::OwnOutput
             | WordFault::NotEmpty
@@ -130,7 +134,7 @@ impl WordFault {
     }
 }
 
-/// The end of a command with a line about something, and this status.
+/// Returns the end of a command with the line `what: why` and this status.
 pub fn stop_about<'a, D: Display + Drop>(
     alloc: Global,
     what: &str,
@@ -147,7 +151,7 @@ pub fn stop_about<'a, D: Display + Drop>(
     }
 }
 
-/// Says why a command ended before it was done, and gives the status of any command.
+/// Prints why a command ended early, if it did, and returns the exit status.
 pub fn say_end<R: Eprint>(rt: &R, done: Result<Status, Stop<'_>>) -> Status
     ensures { EndsWith done.entry result }
 {
@@ -186,15 +190,19 @@ fn say_stop<R: Eprint>(rt: &R, stop: &Stop<'_>) -> Status
             Status::Host
         }
         Stop::SavedUnwritten(why) => {
-            let _ = eprintln!(rt; "f11fs: the image is saved; writing failed: {why}");
+            let _ = eprintln!(rt;
+                "f11fs: the image is saved, but writing to standard output failed: {why}"
+            );
             Status::Host
         }
         Stop::NoTime => {
-            let _ = eprintln!(rt; "f11fs: the host's clock says no time; --stamp does");
+            let _ = eprintln!(rt;
+                "f11fs: the host's clock gives no valid time; set one with --stamp"
+            );
             Status::Host
         }
         Stop::NoMemory => {
-            let _ = eprintln!(rt; "f11fs: no memory");
+            let _ = eprintln!(rt; "f11fs: out of memory");
             Status::Host
         }
         Stop::Lines(lines, status) => {
@@ -204,14 +212,14 @@ fn say_stop<R: Eprint>(rt: &R, stop: &Stop<'_>) -> Status
     }
 }
 
-/// Says each of these lines.
+/// Prints each of these lines on standard error.
 pub(crate) fn say_lines<R: Eprint>(rt: &R, lines: &str) {
     for line in lines.lines() {
         let _ = eprintln!(rt; "f11fs: {line}");
     }
 }
 
-/// Says something about a word, or about a file.
+/// Prints the line `what: why` on standard error.
 pub(crate) fn say_about<R: Eprint, D: Display + Drop>(rt: &R, what: &str, why: D) {
     let what = Shown(what);
     let _ = eprintln!(rt; "f11fs: {what}: {why}");
@@ -220,16 +228,16 @@ pub(crate) fn say_about<R: Eprint, D: Display + Drop>(rt: &R, what: &str, why: D
 /// Says that standard output takes no more; that whoever reads it wants no more is no matter.
 fn say_unwritten<R: Eprint>(rt: &R, why: HostFault) {
     if why != HostFault::NoReader {
-        let _ = eprintln!(rt; "f11fs: writing failed: {why}");
+        let _ = eprintln!(rt; "f11fs: writing to standard output failed: {why}");
     }
 }
 
-/// Says that two entries of one directory fit a path.
+/// Prints that two entries of one directory match a path.
 pub(crate) fn say_twins<R: Eprint>(rt: &R, path: &str) {
     say_about(rt, path, TWO_ENTRIES);
 }
 
-/// The end of a command whose path two entries of one directory fit.
+/// Returns the end of a command whose path matches two entries of one directory.
 pub(crate) fn stop_twins<'a>(alloc: Global, path: &str) -> Stop<'a>
     ensures status { StopsWith result Code.Refused ⊎ (result ≡ End.NoMemory) }
     ensures line { SaysLine (about_line path.now two_entries) result }
@@ -237,7 +245,7 @@ pub(crate) fn stop_twins<'a>(alloc: Global, path: &str) -> Stop<'a>
     stop_about(alloc, path, TWO_ENTRIES, Status::Refused)
 }
 
-/// Says of an image that is refused the name of the refusal, why it comes, and what one can do, or what the bytes look like.
+/// Prints the refusal of an image: its name and its reason, and a remedy or the apparent type of the bytes.
 pub(crate) fn say_refused<R: Eprint>(rt: &R, path: &str, fault: VolumeFault) {
     let path = Shown(path);
     let _ = match (fault.advice(), fault.look()) {
@@ -266,8 +274,8 @@ pub fn send<'a, R: Print>(rt: &R, text: &str) -> Result<Status, Stop<'a>>
     }
 }
 
-/// Ends a command that prints where standard output is appended to the image itself.
-pub(crate) fn stop_at_own_output<'a, R: Files>(rt: &R, image: &'a str) -> Result<(), Stop<'a>>
+/// Refuses a command that prints if standard output is the image itself, and not a character device.
+pub fn stop_at_own_output<'a, R: Files>(rt: &R, image: &'a str) -> Result<(), Stop<'a>>
     ensures { IfErr result (λ stop. stop ≡ End.Word image.entry WordFault.OwnOutput) }
 {
     let (Ok(output), Ok(found)) = (fs::metadata(rt, "/proc/self/fd/1"), fs::metadata(rt, image))

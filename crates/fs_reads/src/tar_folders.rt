@@ -1,4 +1,4 @@
-//! Which directories a path of `tar` means, whether it means many files, and in which folders of the archive a file stands.
+//! The directories that a path of `tar` selects, whether it selects many files, and the archive folders of a file.
 ghost use Rattle.std.specs.Prelude.{◌≡◌, ℕ, List, IfOk, IfSome, IfNone, MatchBool, string_bytes};
 ghost use Rattle.std.specs.List.{All, Contains};
 ghost use Rattle.fs_reads.specs.Tars.{AreMeantBy, IsFolderOf, LeadsTo, is_pattern as pattern_said, means_many};
@@ -16,16 +16,16 @@ use ods_shell::{Directory, EntryPlace, Found, find_open, push_path};
 use ods_space::Disk;
 use std::alloc::{AllocError, Global};
 
-/// What a path means.
+/// The selection of a path.
 #[derive(Drop)]
 pub(crate) struct Meant {
-    /// Whether it means all files of directories, or those of a pattern.
+    /// Whether it selects all files of directories, or the files of a pattern.
     pub many: bool,
-    /// The directories; none where it names a file by its ID.
+    /// The directories; none if the path names a file by its ID.
     pub directories: Vec<Directory>,
 }
 
-/// What a path means, past these closed directories.
+/// Returns the selection of a path, past these closed directories.
 pub(crate) fn meant_by(
     alloc: Global,
     disk: &Disk<'_>,
@@ -78,7 +78,7 @@ fn is_pattern(files: &Option<Files<'_>>) -> bool
     }
 }
 
-/// The folders on the way to a file, with slashes between them, by the directory among these in which its entry stands.
+/// Returns the folders of a file, with slashes between them. Its entry is in one of these directories.
 pub(crate) fn folder_of(
     alloc: Global,
     directories: &[Directory],

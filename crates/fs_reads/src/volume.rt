@@ -1,16 +1,18 @@
 //! The volume of an image in a file.
-ghost use Rattle.std.specs.Prelude.{◌≡◌, IfErr, IfOk, Ok, option_map};
+ghost use Rattle.std.specs.Prelude.{◌≡◌, IfErr, IfOk, MatchBool, Ok, Some, option_map};
 ghost use Rattle.ods_shell.specs.Remedies.{advice_words};
-ghost use Rattle.fs_reads.specs.{Advised.advice_for, Volumes.IsFaultOf, Volumes.IsNoVolume, Volumes.IsNotMounted, Volumes.IsNotOpened, Volumes.IsNotRead, Volumes.IsNotReadIn, Volumes.look_in, Volumes.said_extent as extent_said};
+ghost use Rattle.fs_reads.specs.{Advised.advice_for, Volumes.IsFaultOf, Volumes.IsPartThere, Volumes.LacksBlocks, Volumes.IsNoVolume, Volumes.IsNotMounted, Volumes.IsNotOpened, Volumes.IsNotRead, Volumes.IsNotReadIn, Volumes.look_in, Volumes.said_extent as extent_said};
 ghost use Rattle.fs_reads.specs.declared.volume.VolumeFault.{VolumeFault as Fault};
 
 use crate::looks::{Look, looks_like};
 use crate::stop::{Stop, WordFault, say_about};
 use fs_host::{Extent, HostFault, Layers, Noting, ReadFault, layered_in, read_some};
 use ods_base::{Coded, Image, ImageError};
+use ods_container::{has_all_blocks, readable_part};
 use ods_mount::{MountFault, Mounted, mount};
 use ods_order::Order;
 use ods_shell::{Advice, remedy};
+use std::alloc::{AllocError, Global};
 use std::fs;
 use std::fs::File;
 use std::io::Read;
@@ -20,28 +22,28 @@ use thiserror::Error;
 /// Of how many bytes it is seen what a file looks like.
 const FRONT: u64 = 1024;
 
-/// Why there is no volume.
+/// Why an image is not a volume.
 #[derive(Clone, Copy, Debug, PartialEq, Eq, Error)]
 pub enum VolumeFault {
-    /// The file is not there, or reading it failed.
+    /// The file does not exist, or reading it failed.
     #[error("reading failed: {0}")]
     Read(HostFault),
     /// The allocator refused memory.
-    #[error("no memory")]
+    #[error("out of memory")]
     NoMemory,
-    /// The file has another size than a floppy of this order, which was said.
+    /// The file size differs from the size of a floppy in this order, which was specified.
     #[error("OtherSize")]
     OtherSize(Order),
-    /// The bytes are no image; and what they look like.
+    /// The bytes are not a valid image. Also their apparent type.
     #[error("{0}")]
     Image(ImageError, Option<Look>),
-    /// The image is no sound volume; and what it looks like where it has no home block.
+    /// The image is not a sound volume. Also its apparent type if it has no home block.
     #[error("{0}")]
     Volume(MountFault, Option<Look>),
 }
 
 impl VolumeFault {
-    /// Why the refusal comes, and what one can do.
+    /// Returns the reason for the refusal and a remedy, if there is one for the fault.
     pub fn advice(&self) -> Option<Advice>
         ensures { option_map advice_words result ≡ advice_for self.now }
     {
@@ -52,7 +54,7 @@ impl VolumeFault {
         }
     }
 
-    /// What the bytes look like.
+    /// Returns the apparent type of the bytes, if the fault has one.
     pub fn look(&self) -> Option<Look>
         ensures { result ≡ look_in self.now }
     {
@@ -63,8 +65,8 @@ impl VolumeFault {
     }
 }
 
-/// The volume in the image at this path, of so many blocks where a number is given, with its sectors in the order that is said, and what is
-/// to be said of an image that is longer or shorter than it.
+/// Reads the volume in the image at this path, and returns it with the remark on an image that is longer or shorter. The volume has `given` blocks, if
+/// that is a number, and its sectors are in the order of `layers`. If the image ends before a block of a file, only the blocks that it has are returned.
 #[tactic(auto, using(crate::proofs::Mounting::not_opened))]
 pub(crate) fn open_image<R: Files<File = File> + AllocGlobal>(
     rt: &R,
@@ -83,13 +85,61 @@ pub(crate) fn open_image<R: Files<File = File> + AllocGlobal>(
         Ok(read) => {
             let contained = read.contained;
             let extent = Extent::of(&contained);
-            Ok((contained.image, extent))
+            match part_there(rt.alloc(), contained.image, extent) {
+                Ok(image) => Ok((image, extent)),
+                Err(_) => Err(VolumeFault::NoMemory),
+            }
         }
         Err(fault) => Err(not_read_in(rt, path, fault, noting.why())),
     }
 }
 
-/// Says of an image that it is shorter than its volume; and where `tells_behind` that it is longer, which is no fault.
+/// Returns the part of an image that can be read, by the remark on the length of its file: the first blocks, as many as the file has, if a file of the
+/// volume has others too.
+fn part_there(alloc: Global, image: Image, extent: Option<Extent>) -> Result<Image, AllocError>
+    ensures { IfOk result (IsPartThere extent image) }
+{
+    match extent {
+        Some(extent) => part_by(alloc, image, extent),
+        None => Ok(image),
+    }
+}
+
+/// The part of an image that can be read, by this remark.
+fn part_by(alloc: Global, image: Image, extent: Extent) -> Result<Image, AllocError>
+    ensures { IfOk result (IsPartThere (Some extent) image) }
+{
+    match extent {
+        Extent::Shorter(count, _) => readable_part(alloc, image, count),
+        _ => Ok(image),
+    }
+}
+
+/// Returns whether an image ends before a block of a file, by the remark on the length of its file. The error is for memory.
+pub fn lacks_blocks(
+    alloc: Global,
+    image: &Image,
+    extent: Option<Extent>,
+) -> Result<bool, AllocError>
+    ensures { IfOk result (λ lacks. MatchBool lacks (LacksBlocks extent image.now) (¬ LacksBlocks extent image.now)) }
+{
+    match extent {
+        Some(extent) => lacks_by(alloc, image, extent),
+        None => Ok(false),
+    }
+}
+
+/// Whether an image ends before a block of a file, by this remark.
+fn lacks_by(alloc: Global, image: &Image, extent: Extent) -> Result<bool, AllocError>
+    ensures { IfOk result (λ lacks. MatchBool lacks (LacksBlocks (Some extent) image.now) (¬ LacksBlocks (Some extent) image.now)) }
+{
+    match extent {
+        Extent::Shorter(count, _) => Ok(!has_all_blocks(alloc, image, count)?),
+        _ => Ok(false),
+    }
+}
+
+/// Prints that an image is shorter than its volume. With `tells_behind` also prints that it is longer, which is not a fault.
 pub fn say_extent<R: Eprint>(rt: &R, path: &str, extent: Option<Extent>, tells_behind: bool) {
     if let Some(extent) = said_extent(extent, tells_behind) {
         say_about(rt, path, extent);
@@ -106,7 +156,7 @@ fn said_extent(extent: Option<Extent>, tells_behind: bool) -> Option<Extent>
     }
 }
 
-/// Why there is no volume in the order that was said; `why` reading failed, if it did.
+/// Returns the fault of an image that was not read in the specified order. `why` is the reason if reading failed.
 pub(crate) fn not_read_in<R: Files<File = File> + AllocGlobal>(
     rt: &R,
     path: &str,
@@ -121,7 +171,7 @@ pub(crate) fn not_read_in<R: Files<File = File> + AllocGlobal>(
     }
 }
 
-/// Why there is no image; `why` reading failed, if it did.
+/// Returns the fault of an image that was not read. `why` is the reason if reading failed.
 pub(crate) fn not_read<R: Files<File = File> + AllocGlobal>(
     rt: &R,
     path: &str,
@@ -137,7 +187,7 @@ pub(crate) fn not_read<R: Files<File = File> + AllocGlobal>(
     }
 }
 
-/// What the plain file at this path looks like.
+/// Returns the apparent type of the plain file at this path.
 pub(crate) fn look_at<R: Files<File = File> + AllocGlobal>(rt: &R, path: &str) -> Option<Look> {
     let Ok(found) = fs::metadata(rt, path) else {
         return None;
@@ -170,7 +220,7 @@ fn mount_image<R: Files<File = File> + AllocGlobal>(
     }
 }
 
-/// Why an image that was read from this path is no sound volume, in the words of a mount.
+/// Returns the fault of an image that was read from this path, from the fault of its mount.
 pub(crate) fn not_mounted<R: Files<File = File> + AllocGlobal>(
     rt: &R,
     path: &str,
@@ -185,8 +235,8 @@ pub(crate) fn not_mounted<R: Files<File = File> + AllocGlobal>(
     }
 }
 
-/// The volume of the image at this path, of so many blocks where a number is given, with its sectors in the order that is said; that an image is
-/// refused is said, and that it is shorter than its volume, or where `tells_behind` longer.
+/// Mounts the image at this path, of `given` blocks if a number is given, with its sectors in the order that `layers` specifies. Prints that the
+/// image is shorter than its volume, and with `tells_behind` also that it is longer. A refusal is returned as the end of the command.
 pub fn open_volume<'a, R: Files<File = File> + AllocGlobal + Eprint>(
     rt: &R,
     path: &'a str,
@@ -205,7 +255,7 @@ pub fn open_volume<'a, R: Files<File = File> + AllocGlobal + Eprint>(
     }
 }
 
-/// The volume of an image that was read from this path; that it is refused is said.
+/// Mounts an image that was read from this path. A refusal is returned as the end of the command.
 pub fn volume_of<'a, R: Files<File = File> + AllocGlobal>(
     rt: &R,
     path: &'a str,
@@ -220,7 +270,7 @@ pub fn volume_of<'a, R: Files<File = File> + AllocGlobal>(
     }
 }
 
-/// The image that was read from this path; that there is none is said.
+/// Returns the image that was read from this path. A fault is returned as the end of the command.
 pub fn image_of<'a, R: Files<File = File> + AllocGlobal>(
     rt: &R,
     path: &'a str,
@@ -250,7 +300,7 @@ fn mount_or_stop<'a, R: Files<File = File> + AllocGlobal>(
     }
 }
 
-/// Why there is no volume at this path.
+/// Returns the end of the command for this fault of the image at this path.
 pub(crate) fn no_volume<'a>(path: &'a str, fault: VolumeFault) -> Stop<'a>
     ensures { IsNoVolume path.entry fault result }
 {

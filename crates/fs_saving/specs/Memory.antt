@@ -6,15 +6,15 @@ use Rattle.std.proofs.lemmas.List.{take_all}
 use Rattle.fs_saving.specs.declared.memory.Change.{Change}
 use Rattle.fs_saving.specs.declared.memory.MemoryFolder.{MemoryFolder}
 
--- what a change leaves under its name: a file with these bytes, or none
+-- the content of a name after a change of it: a file with these bytes, or none
 abbrev pub left_by : Change → Option (List ℕ)
 left_by change = if change.is_there then Some change.bytes.items else None
 
--- what a name holds behind a change
+-- the content of a name after one more change
 abbrev pub held_behind : List ℕ → Option (List ℕ) → Change → Option (List ℕ)
 held_behind name before change = if pointwise nat_eq change.name.items name then left_by change else before
 
--- what a name holds behind these changes: what the last change of the name left, or no file
+-- the content of a name after these changes: that of the last change of the name, or no file
 abbrev pub held : List Change → List ℕ → Option (List ℕ)
 held changes name = fold (held_behind name) None changes
 
@@ -22,25 +22,25 @@ held changes name = fold (held_behind name) None changes
 abbrev pub changes_of : MemoryFolder → List Change
 changes_of folder = folder.changes.items
 
--- a call of a folder has failed, or a file was not what was asked for
+-- a call of a folder has failed, or a file was not the expected one
 abbrev pub failed_in : MemoryFolder → Bool
 failed_in folder = folder.has_failed
 
--- a name of a folder holds this
+-- a name of a folder has this content
 abbrev pub Holds : MemoryFolder → List ℕ → Option (List ℕ) → Type 0
 Holds folder name content = held (changes_of folder) name ≡ content
 
--- Behind some of these changes a name held this.
+-- After some of these changes a name had this content.
 pub record WasHeld (changes : List Change) (name : List ℕ) (content : Option (List ℕ)) : Type 0 where
   pub count : ℕ
   pub within : count ≤ length changes
   pub is : held (take count changes) name ≡ content
 
--- a name of a folder held this at some moment up to now
+-- a name of a folder had this content at some moment up to now
 abbrev pub HeldOnce : MemoryFolder → List ℕ → Option (List ℕ) → Type 0
 HeldOnce folder name content = WasHeld (changes_of folder) name content
 
--- what a name holds, it holds at this moment
+-- the content of a name is its content at this moment
 pub counted_now : (folder : MemoryFolder) (name : List ℕ) (content : Option (List ℕ)) → Holds folder name content → HeldOnce folder name content
 counted_now folder name content is = record {
   count = length (changes_of folder);

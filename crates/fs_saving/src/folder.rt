@@ -1,27 +1,27 @@
-//! What saving needs of a host.
+//! The operations that saving needs of a host.
 use ods_base::Image;
 
 /// A folder of the host, in which files are made under hidden names until they take their own.
 ///
-/// No clause says that a host keeps what it is given: only bytes that are read back are known.
+/// No clause states that a host keeps the bytes that it is given: only bytes that are read back are known.
 pub trait Folder {
     ghost use Rattle.std.specs.Prelude.{ℕ, List, [], ◌++◌, Option, Some, None, ◌≡◌, ◌⊎◌, IfOk, OnOk, IfErr, OnErr, IsTrue, IsFalse};
     ghost use Rattle.ods_base.specs.Image.{image_bytes};
     ghost use Rattle.fs_saving.specs.Folder.{Stays, OthersStay, RestStays, Moves, Lasts, OthersLast, LastsOrTakes, Gains, EndsStay};
 
-    /// A file that is made here, and open.
+    /// A file that was made in the folder, and is open.
     type File: Drop;
 
-    /// Why the host does not do what it is asked for.
+    /// The reason why the host does not carry out a call.
     type Fault: Drop;
 
-    /// A name holds these bytes, or no file. Of a host of which nothing is known each name holds whatever one likes.
+    /// A name holds these bytes, or no file. For a host about which nothing is known, each name holds any content.
     ghost has: { Self → List ℕ → Option (List ℕ) → Type 0 };
 
     /// A name held these bytes, or no file, at some moment up to now.
     ghost had: { Self → List ℕ → Option (List ℕ) → Type 0 };
 
-    /// A name holds one thing at a time. Of a host of which nothing is known this is not known.
+    /// A name holds one content at a time. For a host about which nothing is known, this is not known.
     ghost knows: { Type 0 };
 
     /// The name under which a file was made.
@@ -33,16 +33,16 @@ pub trait Folder {
     /// A file was given these bytes in all.
     ghost given: { Self.File → List ℕ → Type 0 };
 
-    /// A call may end with this fault.
+    /// A call may fail with this fault.
     ghost may_end: { Self → Self.Fault → Type 0 };
 
-    /// A call has failed, or a file did not keep what it was given.
+    /// A call has failed, or a file did not keep the given bytes.
     ghost has_failed: { Self → Type 0 };
 
-    /// A hidden name could not be taken away.
+    /// A hidden name could not be removed.
     ghost has_left: { Self → Type 0 };
 
-    /// Makes an empty file under this name. A hidden file that a run left there may go.
+    /// Makes an empty file under this name. A hidden file that an earlier run left under the name may be deleted.
     fn make(&mut self, name: &str) -> Result<Self::File, Self::Fault>
         ensures named { IfOk result (λ file. hidden file ≡ name.now) }
         ensures unwritten { IfOk result (λ file. given file []) }
@@ -53,7 +53,7 @@ pub trait Folder {
         ensures moments { OthersLast (had self.old) (had self.new) name.now }
         ensures ends { EndsStay (may_end self.old) (may_end self.new) };
 
-    /// Writes an image, and these bytes behind it, behind what the file has. What the file has then is known only by reading it back.
+    /// Appends an image, and `behind` after it, to the file. The contents of the file are then known only by reading it back.
     fn write(
         &mut self,
         file: &mut Self::File,
@@ -68,7 +68,7 @@ pub trait Folder {
         ensures moments { OthersLast (had self.old) (had self.new) (hidden file.old) }
         ensures ends { EndsStay (may_end self.old) (may_end self.new) };
 
-    /// Waits until all that was written to the file is on the disk.
+    /// Waits until all written bytes of the file are on the disk.
     fn sync(&mut self, file: &mut Self::File) -> Result<(), Self::Fault>
         ensures named { hidden file.new ≡ hidden file.old }
         ensures synced { OnOk result (is_synced file.new) }
@@ -79,7 +79,7 @@ pub trait Folder {
         ensures moments { (name : List ℕ) → Lasts (had self.old) (had self.new) name }
         ensures ends { EndsStay (may_end self.old) (may_end self.new) };
 
-    /// Reads the file back: whether it has the bytes of this image, with these behind them, and no more.
+    /// Reads the file back, and returns whether it has exactly the bytes of this image, followed by `behind`.
     fn holds(&mut self, file: &mut Self::File, image: &Image, behind: &[u8]) -> bool
         ensures named { hidden file.new ≡ hidden file.old }
         ensures synced { is_synced file.old → is_synced file.new }
@@ -90,7 +90,8 @@ pub trait Folder {
         ensures moments { (name : List ℕ) → Lasts (had self.old) (had self.new) name }
         ensures ends { EndsStay (may_end self.old) (may_end self.new) };
 
-    /// Gives the file this name in place of its hidden one. A file that has the name goes, or the call fails. One that fails may have done it.
+    /// Renames the file from its hidden name to this name. A file that has the name is replaced, or the call fails. A call that fails may have
+    /// renamed it.
     fn rename(&mut self, file: &mut Self::File, name: &str) -> Result<(), Self::Fault>
         requires { is_synced file.old }
         ensures named { hidden file.new ≡ hidden file.old }
@@ -102,7 +103,7 @@ pub trait Folder {
         ensures others { RestStays (has self.old) (has self.new) name.now (hidden file.old) }
         ensures ends { EndsStay (may_end self.old) (may_end self.new) };
 
-    /// Takes the hidden name away. Whether it is gone.
+    /// Removes the hidden name, and returns whether it is gone.
     fn remove(&mut self, file: Self::File) -> bool
         ensures gone { IsTrue result → has self.new (hidden file) None }
         ensures left { IsFalse result → has_left self.new }
@@ -110,6 +111,6 @@ pub trait Folder {
         ensures others { OthersStay (has self.old) (has self.new) (hidden file) }
         ensures moments { OthersLast (had self.old) (had self.new) (hidden file) };
 
-    /// This moment is one up to now.
+    /// The present moment counts as a moment up to now.
     ghost counts_now: { (folder : Self) (name : List ℕ) (held : Option (List ℕ)) → has folder name held → had folder name held };
 }

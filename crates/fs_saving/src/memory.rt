@@ -1,4 +1,4 @@
-//! A folder in memory, of which each call can be made to fail: for tests of what saves, and to show that the trait asks for nothing impossible.
+//! A folder in memory, whose calls can be made to fail: for tests of programs that save, and to show that the trait requires nothing impossible.
 ghost use Rattle.std.specs.Prelude.{◌⊎◌, ℕ, List, Option, ◌≡◌, [], if◌then◌else◌, Some, None, OnOk, OnErr, MatchOption};
 ghost use Rattle.fs_saving.specs.Folder.{OthersStay, OthersLast};
 ghost use Rattle.fs_saving.specs.Memory.{changes_of, failed_in, held, left_by, Holds, HeldOnce};
@@ -8,10 +8,10 @@ mod calls;
 
 use std::alloc::{AllocError, Global};
 
-/// Why a call of a folder in memory fails.
+/// The reason why a call of a folder in memory fails.
 #[derive(Clone, Copy, Debug, PartialEq, Eq)]
 pub enum MemoryFault {
-    /// It is the call that is to fail.
+    /// The call was planned to fail.
     Failed,
     /// There is no such file.
     NotThere,
@@ -58,7 +58,7 @@ pub struct MemoryFile {
 }
 
 impl MemoryFolder {
-    /// A folder without files, of which the call with the one number fails, and the write with the other turns a byte. 0 is none.
+    /// Returns a folder without files. The call with number `failing` fails, and the write with number `turning` changes a byte. 0 is no call.
     pub fn new(alloc: Global, failing: u32, turning: u32) -> MemoryFolder
         ensures { changes_of result ≡ [] }
     {
@@ -72,7 +72,7 @@ impl MemoryFolder {
         }
     }
 
-    /// Gives a name a file with these bytes. No planned failure comes here.
+    /// Sets the file under a name to these bytes. No planned failure applies here.
     pub fn set(&mut self, name: &[u8], bytes: &[u8]) -> Result<(), MemoryFault>
         ensures ok { OnOk result (Holds self.new name.now (Some bytes.now)) }
         ensures err { OnErr result (changes_of self.new ≡ changes_of self.old) }
@@ -82,7 +82,7 @@ impl MemoryFolder {
         self.put(name, true, bytes)
     }
 
-    /// The bytes of the file under this name.
+    /// Returns the bytes of the file under this name, or `None` if there is no file.
     pub fn get(&self, name: &[u8]) -> Option<&[u8]>
         ensures { MatchOption result (Holds self.now name.now None) (λ bytes. Holds self.now name.now (Some bytes.now)) }
     {
@@ -92,7 +92,7 @@ impl MemoryFolder {
         }
     }
 
-    /// Whether a call has failed, or a file was not what was asked for.
+    /// Returns whether a call has failed, or a file was not the expected one.
     pub fn has_failed(&self) -> bool
         ensures { result ≡ failed_in self.now }
     {

@@ -1,4 +1,4 @@
-//! Images saved under their name by way of a hidden one.
+//! The saving of images under their name, through a hidden file.
 ghost use Rattle.std.specs.Prelude.{[], ◌≡◌, ◌≢◌, ◌++◌, ℕ, List, Some, None, Option, IfErr, OnOk, OnErr};
 ghost use Rattle.ods_base.specs.Image.{image_bytes};
 ghost use Rattle.fs_saving.specs.Folder.{Stays, OthersStay, RestStays, OthersLast, LastsOrIs, EndsStay};
@@ -7,9 +7,8 @@ ghost use Rattle.fs_saving.specs.Saving.{IsCleared, IsEarly, IsLeft, MayCome};
 use crate::{Folder, Unsaved};
 use ods_base::Image;
 
-/// Saves an image, with these bytes behind it, under this name. A hidden file gets the bytes, is synced and read back, and only then takes
-/// the name. So the name holds what it held or the new bytes at each moment, also where the program is ended. After a failure the hidden
-/// file is taken away.
+/// Saves an image, with `behind` after it, under this name. It writes the bytes into a hidden file, syncs it and reads it back, and only then renames
+/// it. So the name has its former content or the new bytes at each moment, even if the program is killed. After a failure the hidden file is removed.
 pub fn save<F: Folder>(
     folder: &mut F,
     hidden: &str,

@@ -1,14 +1,14 @@
-//! Why bytes are not saved.
+//! The reasons why bytes are not saved.
 
-/// Why bytes are not saved, with what the host says where it failed.
+/// The reason why bytes are not saved, with the fault of the host if it failed.
 #[derive(Clone, Copy, Debug, PartialEq, Eq)]
 pub enum Unsaved<E> {
-    /// The hidden file is not made.
+    /// The hidden file could not be made.
     Make(E),
-    /// The bytes are not written, or not synced.
+    /// The bytes could not be written or synced.
     Write(E),
-    /// The bytes that are read back are not those that were written.
+    /// The bytes that are read back differ from the written ones.
     Differs,
-    /// The hidden file does not take the name.
+    /// The hidden file could not be renamed.
     Rename(E),
 }

@@ -1,4 +1,4 @@
--- What a command asks for, by what a parse found behind its name.
+-- The request of a command, by the parse of the words after its name.
 use Rattle.std.specs.Prelude.{◌≡◌, ◌≢◌, ◌≤◌, ◌⊎◌, ℕ, length, Bool, true, false, List, [], codes, Option, Some, None, MatchOption, option_map, unwrap_or, is_some}
 use Rattle.std.specs.Borrow.{Bor}
 use Rattle.clap.specs.declared.parser.matches.ArgMatches.{ArgMatches}
@@ -40,12 +40,12 @@ texts_of m id = unwrap_or (option_map raw_values (matched_of (found_of m) id)) [
 abbrev pub IsLs : ArgMatches → Action → Type 0
 IsLs m a = (long ids below : Bool) × IsSet m (codes "-l") long × IsSet m (codes "-i") ids × IsSet m (codes "-R") below × (a ≡ action.Ls long ids below)
 
--- -l does nothing alone
+-- -l has no effect by itself
 abbrev pub IsFind : ArgMatches → Action → Type 0
 IsFind m a = (lost deleted long : Bool) × IsSet m (codes "--lost") lost × IsSet m (codes "--deleted") deleted × IsSet m (codes "-l") long
     × (long ≡ true → deleted ≡ true) × (a ≡ action.Find lost deleted long)
 
--- the form that is wanted: the first of the three options that is set
+-- the requested form: the first of the three options that is set
 abbrev pub IsWanted : ArgMatches → Wanted → Type 0
 IsWanted m Text = IsSet m (codes "-t") true
 IsWanted m Binary = IsSet m (codes "-t") false × IsSet m (codes "-b") true
@@ -55,7 +55,7 @@ IsWanted m ByKind = IsSet m (codes "-t") false × IsSet m (codes "-b") false × 
 abbrev pub IsCat : ArgMatches → Action → Type 0
 IsCat m a = (wanted : Wanted) × IsWanted m wanted × (a ≡ action.Cat wanted)
 
--- --partial does nothing without --deleted, and -r nothing with it
+-- --partial has no effect without --deleted, and -r none with it
 abbrev pub IsGet : ArgMatches → Option (Bor (List ℕ)) → Action → Type 0
 IsGet m out a = (wanted : Wanted) × (below deleted partial dated : Bool) × IsWanted m wanted × IsSet m (codes "-r") below × IsSet m (codes "--deleted") deleted
     × IsSet m (codes "--partial") partial × IsSet m (codes "-p") dated × (partial ≡ true → deleted ≡ true) × (below ≡ true → deleted ≡ false)
@@ -76,7 +76,7 @@ IsRescue m a = (text scan partial : Bool) × IsSet m (codes "--text") text × Is
 abbrev pub IsCmp : ArgMatches → Action → Type 0
 IsCmp m a = (all : Bool) × IsSet m (codes "--all") all × (a ≡ action.Cmp all)
 
--- whether new files are to be in one piece, by the one of two options that is set
+-- whether new files must be in one piece, by the one of two options that is set
 abbrev pub IsContiguity : ArgMatches → Option Bool → Type 0
 IsContiguity m (Some true) = IsSet m (codes "--contiguous") true
 IsContiguity m (Some false) = IsSet m (codes "--contiguous") false × IsSet m (codes "--no-contiguous") true
@@ -93,14 +93,14 @@ pub record IsPutSo (m : ArgMatches) (p : PutWords) : Type 0 where
   pub below : IsSet m (codes "-r") p.below
   pub skip : IsSet m (codes "--skip") p.skip
   pub dated : IsSet m (codes "-p") p.dated
-  -- --skip does nothing without -r, and --replace and --like nothing with it
+  -- --skip has no effect without -r, and --replace and --like none with it
   pub skips_below : p.skip ≡ true → p.below ≡ true
   pub anew : p.below ≡ true → (p.replace ≡ false) × (text_of m (codes "--like") ≡ None)
 
 abbrev pub IsPut : ArgMatches → Action → Type 0
 IsPut m a = (p : PutWords) × IsPutSo m p × (a ≡ action.Change (change.Put p))
 
--- an archive and a directory are said at most
+-- an archive and a directory are given at most
 abbrev pub IsUntar : ArgMatches → Action → Type 0
 IsUntar m a = (length (texts_of m (codes "path")) ≤ 2) × (a ≡ action.Change change.Untar)
 
@@ -110,7 +110,7 @@ pub record IsFromSo (m : ArgMatches) (f : FromWords) : Type 0 where
   pub next : IsSet m (codes "--next") f.next
   pub contiguous : IsContiguity m f.contiguous
 
--- no other image is said, and nothing that does something beside one alone
+-- no other image is given, and no option that has an effect only with one
 abbrev pub IsCpWithin : ArgMatches → Action → Type 0
 IsCpWithin m a = (contiguous : Option Bool) × (text_of m (codes "--from") ≡ None) × IsSet m (codes "-r") false × IsSet m (codes "--next") false
     × IsContiguity m contiguous × (contiguous ≢ Some false) × (a ≡ action.Change (change.Cp (unwrap_or contiguous false)))
@@ -121,7 +121,7 @@ IsCp m a = IsCpWithin m a ⊎ ((f : FromWords) × IsFromSo m f × (a ≡ action.
 abbrev pub IsRm : ArgMatches → Action → Type 0
 IsRm m a = (alone newest : Bool) × IsSet m (codes "--entry") alone × IsSet m (codes "--newest") newest × (a ≡ action.Change (change.Rm alone newest))
 
--- how many versions stay: those that are said, at least one; else one
+-- how many versions are kept: the given number, at least one; otherwise one
 abbrev pub IsPurge : ArgMatches → Action → Type 0
 IsPurge m a = (keep : Option ℕ) × IsValue IsNumber (text_of m (codes "-k")) keep × (unwrap_or keep 1 ≢ 0) × (a ≡ action.Change (change.Purge (unwrap_or keep 1)))
 
@@ -131,7 +131,7 @@ IsMkdir m a = (names : Option ℕ) × (owner : Option Uic) × IsValue IsNumber (
 abbrev pub IsTruncate : ArgMatches → Action → Type 0
 IsTruncate m a = (bytes : ℕ) × IsValue IsLargeNumber (text_of m (codes "bytes")) (Some bytes) × (a ≡ action.Change (change.Truncate bytes))
 
--- a path and a host file are said
+-- a path and a host file are given
 abbrev pub IsAppend : ArgMatches → Action → Type 0
 IsAppend m a = (length (texts_of m (codes "path")) ≡ 2) × (a ≡ action.Change change.Append)
 
@@ -144,12 +144,12 @@ IsChown m a = (owner : Uic) × IsValue IsSaid (text_of m (codes "owner")) (Some 
 abbrev pub IsLabel : ArgMatches → Action → Type 0
 IsLabel m a = (text : Bor (List ℕ)) × (text_of m (codes "label") ≡ Some text.now) × (a ≡ action.Change (change.Label text))
 
--- each word names repairs, and those are asked for; a directory is said only beside lost files
+-- each word names repairs, and these are requested; a directory is given only with lost files
 abbrev pub IsRepair : ArgMatches → Action → Type 0
 IsRepair m a = (kinds : Repairs) × (into : Option (Bor (List ℕ))) × AreKinds (texts_of m (codes "path")) kinds
     × (value_of into ≡ text_of m (codes "--into")) × (is_some into ≡ true → kinds.lost ≡ true) × (a ≡ action.Repair kinds into)
 
--- the size of a volume: that of a device, or where there is none of that name the number
+-- the size of a volume: the size of a device, or the number if no device has that name
 abbrev pub IsSize : List ℕ → ℕ → Type 0
 IsSize text blocks = MatchOption (device_size text) (IsNumber text blocks) (λ size. blocks ≡ size)
 
@@ -157,7 +157,7 @@ abbrev pub IsInit : ArgMatches → Action → Type 0
 IsInit m a = (blocks : ℕ) × (files : Option ℕ) × (label : Option (Bor (List ℕ))) × IsSize (unwrap_or (text_of m (codes "size")) []) blocks × IsValue IsNumber (text_of m (codes "--files")) files
     × (value_of label ≡ text_of m (codes "--label")) × (a ≡ action.Init blocks files label)
 
--- What each command asks for; `out` is what -o says.
+-- The request of each command; `out` is the value of -o.
 abbrev pub Asks : Verb → ArgMatches → Option (Bor (List ℕ)) → Action → Type 0
 Asks verb.Ls m out a = IsLs m a
 Asks verb.Find m out a = IsFind m a

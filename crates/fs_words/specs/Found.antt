@@ -1,4 +1,4 @@
--- What the words of a command ask for, beside what is its own.
+-- The request in the words of a command, except its own part.
 use Rattle.std.specs.Prelude.{◌≡◌, ℕ, Bool, true, false, List, codes, Option, Some, None, MatchBool, IsTrue, is_some, map}
 use Rattle.std.specs.Borrow.{Bor}
 use Rattle.clap.specs.declared.parser.matches.ArgMatches.{ArgMatches}
@@ -22,11 +22,11 @@ use Rattle.fs_words.specs.Saying.{IsFlag, paths_among, text_said}
 use Rattle.fs_words.specs.Users.{IsSaid}
 use Rattle.fs_words.specs.Values.{IsValue, value_of}
 
--- a stamp of a day that there is, and of a time of the day
+-- a stamp of a day that exists, and of a time of the day
 abbrev pub IsStamp : List ℕ → List ℕ → Type 0
 IsStamp text stamp = (stamp ≡ text) × IsTrue (is_stamp text) × (is_true_stamp text ≡ true)
 
--- what -o says is the target of a get, and no file of the image
+-- the value of -o is the target of a get, and not a file of the image
 abbrev pub saved_to : Verb → Option (List ℕ) → Option (List ℕ)
 saved_to verb.Get text = None
 saved_to v text = text
@@ -37,13 +37,13 @@ pub record IsSaving (s : Said) (v : Verb) (x : Saving) : Type 0 where
   pub only_tells : IsFlag s (codes "-n") x.only_tells
   pub break_links : IsFlag s (codes "--break-links") x.break_links
 
--- the option does something for the command, where it is said
+-- the option has an effect for the command, if it is given
 abbrev pub ServesWhereSaid : Said → Verb → Choice → Type 0
 ServesWhereSaid s v c = MatchBool (has_value c)
     (is_some (text_said s (option_text c)) ≡ true → option_serves c v ≡ true)
     ((set : Bool) × IsFlag s (option_text c) set × (set ≡ true → option_serves c v ≡ true))
 
--- JSON of what prints none but of a plan is said beside -n
+-- JSON of a command that prints only a plan is given with -n
 abbrev pub PlansWhereJson : Said → Verb → Type 0
 PlansWhereJson s v = (json told : Bool) × IsFlag s (codes "--json") json × IsFlag s (codes "-n") told
     × (json ≡ true → prints_plans v ≡ true → told ≡ true)
@@ -61,7 +61,7 @@ pub record IsFound (path : Bor (List ℕ)) (s : Said) (v : Verb) (a : Action) (w
   pub blocks : IsValue IsNumber (text_said s (codes "--blocks")) w.blocks
   pub order : IsValue IsLayering (text_said s (codes "--order")) w.order
 
--- the words of a command: what it asks for by those behind its name, and what stands beside that
+-- the words of a command: the request in the words after its name, and the options
 abbrev pub AreOfCommand : Bor (List ℕ) → Verb → List (List ℕ) → Option (Bor ArgMatches) → Words → Type 0
 AreOfCommand image v words before w = (s : Said) × (m : Bor ArgMatches) × (out : Option (Bor (List ℕ))) × (a : Action)
     × IsParseOf (whole_app v) words m.now × (s.before ≡ before) × (s.own ≡ Some m) × (value_of out ≡ text_said s (codes "-o")) × Asks v m.now out a × IsFound image s v a w

@@ -12,7 +12,7 @@ is_blank c = (c == 32) || (c == 9)
 abbrev pub is_quote : ℕ → Bool
 is_quote c = (c == 39) || (c == 34)
 
--- where the characters behind one of a word stand: a quote holds together what stands up to the next one of its kind
+-- where the characters after one of a word are: a quote holds together the text up to the next quote of its kind
 abbrev pub behind_letter : ℕ → Stand
 behind_letter c = if is_quote c then stand.Quoted c else stand.Within
 
@@ -20,8 +20,8 @@ behind_letter c = if is_quote c then stand.Quoted c else stand.Within
 abbrev pub letter_text : ℕ → List ℕ
 letter_text c = if is_quote c then [] else encode_utf8 c
 
--- The words in what is left of a line, behind the part of a word that is read. Blanks part words, and # between words opens a remark. There
--- are none where a quote stays open.
+-- The words in the rest of a line, after the part of a word that is read. Blanks separate words, and # between words begins a comment. There are none
+-- if a quote stays open.
 abbrev pub words_from : Stand → List ℕ → List ℕ → Option (List (List ℕ))
 words_from stand.Between word [] = Some []
 words_from stand.Remark word [] = Some []
@@ -36,6 +36,6 @@ words_from (stand.Quoted quote) word (c ∷ rest) = if c == quote then words_fro
 abbrev pub words_in : List ℕ → Option (List (List ℕ))
 words_in line = words_from stand.Between [] (chars line)
 
--- these words, and those behind them
+-- these words, and the words after them
 abbrev pub with_front : List (List ℕ) → Option (List (List ℕ)) → Option (List (List ℕ))
 with_front front words = option_map (λ (ws : List (List ℕ)). front ++ ws) words

@@ -1,10 +1,10 @@
--- What the commands are called.
+-- The names of the commands.
 use Rattle.std.specs.Prelude.{ℕ, List, [], ◌∷◌, codes, Option, find}
 use Rattle.std.specs.Str.{bytes_eq}
 use Rattle.fs_words.specs.declared.verbs.Verb.{Verb}
 use Rattle.fs_words.specs.declared.verbs.Verb.TheVariants as verb
 
--- the name of a command; a file of commands has the option that says one
+-- the name of a command; a file of commands has the option that specifies one
 abbrev pub verb_text : Verb → List ℕ
 verb_text verb.Ls = codes "ls"
 verb_text verb.Find = codes "find"

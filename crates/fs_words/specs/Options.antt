@@ -23,23 +23,23 @@ verb_changes verb.Untar = true
 verb_changes verb.Repair = true
 verb_changes v = false
 
--- a file of commands may hold any of those that change a volume
+-- a file of commands may hold any command that changes a volume
 abbrev pub is_run : Verb → Bool
 is_run verb.File = true
 is_run v = verb_changes v
 
--- what writes files of the host
+-- the commands that write files of the host
 abbrev pub writes_files : Verb → Bool
 writes_files verb.Get = true
 writes_files v = is_run v
 
--- what writes anything of the host but its output
+-- the commands that write anything of the host but their output
 abbrev pub writes : Verb → Bool
 writes verb.Rescue = true
 writes verb.Init = true
 writes v = writes_files v
 
--- what gives a new file its time
+-- the commands that give a new file its time
 abbrev pub stamps : Verb → Bool
 stamps verb.Put = true
 stamps verb.Cp = true
@@ -50,14 +50,14 @@ stamps verb.Init = true
 stamps verb.File = true
 stamps v = false
 
--- what prints lines, if only those of a plan
+-- the commands that print lines, possibly only the lines of a plan
 abbrev pub prints_lines : Verb → Bool
 prints_lines verb.Cat = false
 prints_lines verb.Tar = false
 prints_lines verb.Repair = false
 prints_lines v = true
 
--- what asks rights, or makes something for a user
+-- the commands that check rights, or create something for a user
 abbrev pub asks_rights : Verb → Bool
 asks_rights verb.Df = false
 asks_rights verb.Info = false
@@ -68,7 +68,7 @@ asks_rights verb.Label = false
 asks_rights verb.Repair = false
 asks_rights v = true
 
--- what reads a volume that is there
+-- the commands that read an existing volume
 abbrev pub reads_volume : Verb → Bool
 reads_volume verb.Init = false
 reads_volume v = true
@@ -77,7 +77,7 @@ abbrev pub is_file_of_commands : Verb → Bool
 is_file_of_commands verb.File = true
 is_file_of_commands v = false
 
--- Whether a command may do something with an option.
+-- Whether an option may have an effect for a command.
 abbrev pub option_serves : Choice → Verb → Bool
 option_serves option.Out v = writes_files v
 option_serves option.Backup v = is_run v
@@ -92,7 +92,7 @@ option_serves option.KeepGoing v = is_file_of_commands v
 option_serves option.Blocks v = reads_volume v
 option_serves option.Order v = true
 
--- how an option is written
+-- the spelling of an option
 abbrev pub option_text : Choice → List ℕ
 option_text option.Out = codes "-o"
 option_text option.Backup = codes "--backup"
@@ -116,7 +116,7 @@ has_value option.Blocks = true
 has_value option.Order = true
 has_value c = false
 
--- what prints JSON only beside -n
+-- the commands that print JSON only with -n
 abbrev pub prints_plans : Verb → Bool
 prints_plans verb.Init = true
 prints_plans verb.Get = true

@@ -1,16 +1,16 @@
--- How a word says the protection of a file.
+-- How a word specifies the protection of a file.
 use Rattle.std.specs.Prelude.{◌≡◌, ◌≤◌, ◌<◌, ◌+◌, ◌/◌, ◌%◌, ◌==◌, ◌⊎◌, ℕ, List, [], ◌∷◌, ◌++◌, length}
 use Rattle.std.specs.List.{All, count_by}
 use Rattle.std.specs.Char.{to_ascii_uppercase}
 use Rattle.ods_text.specs.Cuts.{IsPair}
 use Rattle.ods_text.specs.Numbers.{octal_value}
 
--- how often a letter stands in a text, in either case
+-- how often a letter is in a text, in either case
 abbrev pub times : ℕ → List ℕ → ℕ
 times letter text = count_by (λ c. to_ascii_uppercase c == letter) text
 
--- The rights of a class: the letter of each right stands once where its bit is clear, and not at all where the bit is set. The letters stand in any
--- order, and no other character stands among them.
+-- The rights of a class: the letter of each right occurs once if its bit is clear, and not at all if the bit is set. The letters are in any order,
+-- and no other character is among them.
 pub record AreRights (text : List ℕ) (denied : ℕ) : Type 0 where
   pub low : denied < 16
   pub read : times 82 text + denied % 2 ≡ 1
@@ -48,6 +48,6 @@ pub record IsSixDigits (text : List ℕ) (protection : ℕ) : Type 0 where
 abbrev pub IsProtection : List ℕ → ℕ → Type 0
 IsProtection text protection = ((inner : List ℕ) × (text ≡ 91 ∷ (inner ++ 93 ∷ [])) × AreClasses inner protection) ⊎ IsSixDigits text protection
 
--- a text says one word at most
+-- a text specifies at most one word
 abbrev pub IsOneAtMost : Type 0
 IsOneAtMost = (text : List ℕ) (a b : ℕ) → IsProtection text a → IsProtection text b → a ≡ b

@@ -29,7 +29,7 @@ use Rattle.fs_words.specs.Saying.{IsFlag, text_said}
 use Rattle.fs_words.specs.Users.{IsSaid}
 use Rattle.fs_words.specs.Values.{IsValue}
 
--- a fault other than want of memory has this reason
+-- a fault other than out of memory has this reason
 abbrev pub HasReason : Type 0 → WordsFault → Type 0
 HasReason reason fault = fault ≢ NoMemory → reason
 
@@ -37,28 +37,28 @@ HasReason reason fault = fault ≢ NoMemory → reason
 abbrev pub SpellsNone : {A : Type 0} → (List ℕ → A → Type 0) → List ℕ → Type 0
 SpellsNone {A} P text = (x : A) → P text x → ⊥
 
--- a value is said, and it spells no such thing
+-- a value is given, and it spells no such thing
 abbrev pub IsNoValue : {A : Type 0} → (List ℕ → A → Type 0) → Option (List ℕ) → Type 0
 IsNoValue P (Some text) = SpellsNone P text
 IsNoValue P None = ⊥
 
--- the option is said
+-- the option is given
 abbrev pub SaysOption : Said → Choice → Type 0
 SaysOption s c = MatchBool (has_value c) (is_some (text_said s (option_text c)) ≡ true) (IsFlag s (option_text c) true)
 
--- the option is said, and does nothing for the command
+-- the option is given, and has no effect for the command
 abbrev pub IsIdle : Said → Verb → Choice → Type 0
 IsIdle s v c = SaysOption s c × (option_serves c v ≡ false)
 
--- one of these options is idle
+-- one of these options has no effect
 abbrev pub HasIdle : Said → Verb → List Choice → Type 0
 HasIdle s v choices = (c : Choice) × Contains choices c × IsIdle s v c
 
--- JSON of what prints none but of a plan is said without -n
+-- JSON of a command that prints only a plan is given without -n
 abbrev pub IsJsonAlone : Said → Verb → Type 0
 IsJsonAlone s v = IsFlag s (codes "--json") true × IsFlag s (codes "-n") false × (prints_plans v ≡ true)
 
--- What is wrong with the options that may stand with any command: one does nothing for this command, or has a value that spells nothing.
+-- What is wrong with the options that may be given with any command: one has no effect for this command, or has a value that spells nothing.
 pub data IsBeside (s : Said) (v : Verb) : Type 0 where
   idle : HasIdle s v options → IsBeside s v
   json_alone : IsJsonAlone s v → IsBeside s v
@@ -67,7 +67,7 @@ pub data IsBeside (s : Said) (v : Verb) : Type 0 where
   no_blocks : IsNoValue IsNumber (text_said s (codes "--blocks")) → IsBeside s v
   no_order : IsNoValue IsLayering (text_said s (codes "--order")) → IsBeside s v
 
--- what does nothing for a put: --skip without -r, or --replace or --like with it
+-- what has no effect for a put: --skip without -r, or --replace or --like with it
 abbrev pub IsIdleForPut : ArgMatches → Type 0
 IsIdleForPut m = (IsSet m (codes "--skip") true × IsSet m (codes "-r") false) ⊎ (IsSet m (codes "-r") true × (IsSet m (codes "--replace") true ⊎ (is_some (text_of m (codes "--like")) ≡ true)))
 
@@ -85,26 +85,26 @@ IsUnasked verb.Chmod m = (protection : ℕ) → IsValue IsProtection (text_of m 
 IsUnasked verb.Chown m = (owner : Uic) → IsValue IsSaid (text_of m (codes "owner")) (Some owner) → ⊥
 IsUnasked verb.Label m = text_of m (codes "label") ≡ None
 IsUnasked verb.Untar m = 2 < length (texts_of m (codes "path"))
--- within the volume something is said that does something beside another image alone
+-- an option that has an effect only with another image is given within the volume
 IsUnasked verb.Cp m = (text_of m (codes "--from") ≡ None) × (IsSet m (codes "-r") true ⊎ (IsSet m (codes "--next") true ⊎ IsContiguity m (Some false)))
--- a word names no repair, or a directory is said and lost files are not
+-- a word names no repair, or a directory is given without lost files
 IsUnasked verb.Repair m = HasUnknown (texts_of m (codes "path")) ⊎ ((is_some (text_of m (codes "--into")) ≡ true) × (is_asked_for (codes "lost") (texts_of m (codes "path")) ≡ false))
 IsUnasked verb.Init m = SpellsNone IsSize (unwrap_or (text_of m (codes "size")) []) ⊎ IsNoValue IsNumber (text_of m (codes "--files"))
 IsUnasked verb.File m = Unit {0}
 IsUnasked v m = ⊥
 
--- Clap refuses the words by these rules: it does not promise to take them, and where no argument excludes another they are at fault.
+-- Clap refuses the words by these rules: it does not promise to take them, and if no argument excludes another they are at fault.
 pub record IsRefusedBy (rules : App) (words : List (List ℕ)) : Type 0 where
   pub untaken : takes rules words ≡ false
   pub faulty : is_simple_and_free rules ≡ true → fault_of rules words ≢ []
 
--- Why the words of a command are refused: clap refuses those behind its name, or what it finds there asks for nothing, or what stands beside is wrong.
+-- Why the words of a command are refused: clap refuses the words after its name, or their parse requests nothing, or the options are wrong.
 pub data IsNoCommand (v : Verb) (words : List (List ℕ)) (before : Option (Bor ArgMatches)) : Type 0 where
   command_refused : IsRefusedBy (whole_app v) words → IsNoCommand v words before
   unasked : (m : Bor ArgMatches) → IsParseOf (whole_app v) words m.now → IsUnasked v m.now → IsNoCommand v words before
   wrong_beside : (m : Bor ArgMatches) (s : Said) → IsParseOf (whole_app v) words m.now → s.before ≡ before → s.own ≡ Some m → IsBeside s v → IsNoCommand v words before
 
--- what stands before a file of commands is wrong
+-- the options before a file of commands are wrong
 abbrev pub IsNoFile : Bor ArgMatches → Type 0
 IsNoFile before = (s : Said) × (s.before ≡ Some before) × (s.own ≡ None) × IsBeside s verb.File
 
@@ -114,13 +114,13 @@ pub data IsNoName (left : List (List ℕ)) (before : Bor ArgMatches) : Type 0 wh
   unknown : (name : List ℕ) (more : List (List ℕ)) → left ≡ name ∷ more → verb_named name ≡ None → IsNoName left before
   wrong_command : (name : List ℕ) (more : List (List ℕ)) (v : Verb) → left ≡ name ∷ more → verb_named name ≡ Some v → IsNoCommand v more (Some before) → IsNoName left before
 
--- Why a line of a file of commands is refused: clap refuses it, it names a file of commands itself, or it has no command that is right.
+-- Why a line of a file of commands is refused: clap refuses it, it names a file of commands itself, or it has no valid command.
 pub data IsNoLine (words : List (List ℕ)) : Type 0 where
   line_refused : IsRefusedBy (program_app false) words → IsNoLine words
   file_within : (before : Bor ArgMatches) → IsParseOf (program_app false) words before.now → is_some (text_of before.now (codes "commands")) ≡ true → IsNoLine words
   line_without : (before : Bor ArgMatches) → IsParseOf (program_app false) words before.now → IsNoName (words_left words before.now) before → IsNoLine words
 
--- Why a command line is refused: clap refuses it, it has no IMAGE, a file of commands and a command both, or what it has of them is wrong.
+-- Why a command line is refused: clap refuses it, it has no IMAGE, it has both a file of commands and a command, or its words are wrong.
 pub data AreNoWords (words : List (List ℕ)) : Type 0 where
   words_refused : IsRefusedBy (program_app true) words → AreNoWords words
   no_image : (before : Bor ArgMatches) → IsParseOf (program_app true) words before.now → text_of before.now (codes "image") ≡ None → AreNoWords words

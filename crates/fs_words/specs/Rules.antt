@@ -18,7 +18,7 @@ use Rattle.fs_words.specs.declared.verbs.Verb.TheVariants as verb
 use Rattle.fs_words.specs.Names.{verb_text}
 use Rattle.fs_words.specs.Options.{has_value, option_serves, option_text, options}
 
--- the letter of an option, behind its hyphen
+-- the letter of an option, after its hyphen
 abbrev pub letter_in : List ℕ → ℕ
 letter_in option = unwrap_or (slice_get option 1) 45
 
@@ -38,14 +38,14 @@ as_text option r = record (spelled_as option r) { value_names = 1 }
 abbrev pub as_number : List ℕ → Rule → Rule
 as_number option r = record (as_text option r) { parser = Some (vp.Signed (pos 0) (pos 4294967295)) }
 
--- a word that has to stand there, and one that is a number of 64 bits
+-- a required word, and a required number of 64 bits
 abbrev pub as_word : Rule → Rule
 as_word r = record r { value_names = 1; required = true }
 
 abbrev pub as_large : Rule → Rule
 as_large r = record (as_word r) { parser = Some (vp.Unsigned 0 18446744073709551615) }
 
--- paths, at least so many where there are any; and those that have to stand there
+-- paths, at least this number if there are any; and required paths
 abbrev pub as_paths : ℕ → Rule → Rule
 as_paths least r = record r { value_names = 1; range = Some (record { start_inclusive = least; end_inclusive = usize_max }) }
 
@@ -78,19 +78,19 @@ rule_for argument.Paths r = as_paths 0 r
 rule_for argument.SomePaths r = as_needed 0 r
 rule_for argument.TwoPaths r = as_needed 2 r
 
--- the arguments that one of this name cannot stand with
+-- the arguments that exclude the one with this name
 abbrev pub others : List ℕ → List (Bor (List ℕ) × Bor (List ℕ)) → List (List ℕ)
 others id [] = []
 others id (p ∷ pairs) = if bytes_eq p.0.now id then p.1.now ∷ others id pairs else others id pairs
 
--- an argument of a row; is_free says that it can stand with any other
+-- an argument of a row; is_free states that it excludes no other
 abbrev pub rule_in : List (Bor (List ℕ) × Bor (List ℕ)) → Argument → Rule
 rule_in pairs a = record (rule_for a (new_rule (name_of a))) { is_free = is_empty (others (name_of a) pairs) }
 
 abbrev pub rules_in : Row → List Rule
 rules_in row = map (rule_in row.conflicts.now) row.arguments.now
 
--- a command with these arguments behind those that it has
+-- a command with these arguments after the ones that it has
 abbrev pub with_rules : List Rule → App → App
 with_rules rules a = on_top (λ (s : Shape). record s { rules = s.rules ++ rules }) a
 
@@ -113,15 +113,15 @@ paths = as_paths 0 (new_rule (codes "path"))
 abbrev pub needed : ℕ → Rule
 needed least = as_needed least (new_rule (codes "path"))
 
--- an argument that cannot stand with some other
+-- an argument that excludes some other
 abbrev pub apart : Rule → Rule
 apart r = record r { is_free = false }
 
--- what is written to, as -t, -b and --raw, of which one alone may stand
+-- the options for what is written, -t, -b and --raw; only one of them may be given
 abbrev pub forms : List Rule
 forms = apart (flag (codes "-t")) ∷ apart (flag (codes "-b")) ∷ flag (codes "--raw") ∷ []
 
--- the arguments of each command that are its own
+-- the own arguments of each command
 unfoldable pub own_rules : Verb → List Rule
 own_rules verb.Ls = flag (codes "-l") ∷ flag (codes "-R") ∷ flag (codes "-i") ∷ paths ∷ []
 own_rules verb.Find = apart (flag (codes "--lost")) ∷ flag (codes "--deleted") ∷ flag (codes "-l") ∷ apart paths ∷ []
@@ -152,7 +152,7 @@ own_rules verb.Purge = number (codes "-k") ∷ needed 0 ∷ []
 own_rules verb.Mkdir = number (codes "--names") ∷ text (codes "--owner") ∷ needed 0 ∷ []
 own_rules verb.Init = number (codes "--files") ∷ text (codes "--label") ∷ word (codes "size") ∷ []
 
--- a command with what is its own alone
+-- a command with only its own arguments
 unfoldable pub command_app : Verb → App
 command_app v = with_rules (own_rules v) (new_app (verb_text v))
 
@@ -161,21 +161,21 @@ abbrev pub limited : Choice → Rule → Rule
 limited option.Blocks r = record r { parser = Some (vp.Signed (pos 1) (pos 1048576)) }
 limited c r = r
 
--- an option with its value, where it has one
+-- an option with its value, if it has one
 abbrev pub valued : Choice → Bool → Rule → Rule
 valued c true r = limited c (record r { value_names = 1 })
 valued c false r = record r { action = Some SetTrue }
 
--- an option that may stand before IMAGE or behind the command
+-- an option that may come before IMAGE or after the command
 unfoldable pub choice_rule : Choice → Rule
 choice_rule c = valued c (has_value c) (spelled_as (option_text c) (new_rule (option_text c)))
 
--- the help of a command leaves out an option that does nothing for it
+-- the help of a command leaves out an option that has no effect for it
 abbrev pub hides : Choice → Option Verb → Bool
 hides c (Some v) = not (option_serves c v)
 hides c None = false
 
--- a command with its own arguments and all options, of which the words begin behind its name
+-- a command with its own arguments and all options; its words begin after its name
 unfoldable pub whole_app : Verb → App
 whole_app v = with_rules (map choice_rule options) (on_top (λ (s : Shape). record s { no_binary_name = true }) (command_app v))
 
@@ -194,10 +194,10 @@ rest_rule = record (new_rule (codes "rest")) { value_names = 1; range = Some (re
 abbrev pub bare_app : App
 bare_app = record { top = record (new_shape (codes "f11fs")) { no_binary_name = true; has_version = true; disable_help_subcommand = true }; subs = [] }
 
--- what may stand before the command
+-- what may come before the command
 unfoldable pub front_app : Bool → App
 front_app has_image = with_rules (map choice_rule options) (with_rule (with_rules (image_rules has_image) bare_app) file_rule)
 
--- the same, and the words behind it
+-- the same, and the words after it
 unfoldable pub program_app : Bool → App
 program_app has_image = with_rule (front_app has_image) rest_rule

@@ -1,4 +1,4 @@
--- What the words say of an option that may stand before IMAGE or behind the command.
+-- The options in the words, before IMAGE or after the command.
 use Rattle.std.specs.Prelude.{◌≡◌, ◌⊎◌, ℕ, Bool, true, false, List, [], codes, Option, Some, None}
 use Rattle.std.specs.Option.{option_or}
 use Rattle.std.specs.Borrow.{Bor}
@@ -6,7 +6,7 @@ use Rattle.clap.specs.declared.parser.matches.ArgMatches.{ArgMatches}
 use Rattle.fs_words.specs.declared.said.Said.{Said}
 use Rattle.fs_words.specs.Asked.{IsSet, text_of, texts_of}
 
--- an option without a value is set among these, where there are any
+-- an option without a value is set among these, if there are any
 abbrev pub IsSetAmong : Option (Bor ArgMatches) → List ℕ → Bool → Type 0
 IsSetAmong (Some m) option set = IsSet m.now option set
 IsSetAmong None option set = set ≡ false
@@ -25,11 +25,11 @@ abbrev pub paths_among : Option (Bor ArgMatches) → List (List ℕ)
 paths_among (Some m) = texts_of m.now (codes "path")
 paths_among None = []
 
--- an option without a value is said before the command or behind it
+-- an option without a value is given before the command or after it
 abbrev pub IsFlag : Said → List ℕ → Bool → Type 0
 IsFlag s option true = IsSetAmong s.before option true ⊎ IsSetAmong s.own option true
 IsFlag s option false = IsSetAmong s.before option false × IsSetAmong s.own option false
 
--- the text of an option: that behind the command, or where there is none that before it
+-- the text of an option: after the command, or otherwise before it
 abbrev pub text_said : Said → List ℕ → Option (List ℕ)
 text_said s option = option_or (text_among s.own option) (text_among s.before option)

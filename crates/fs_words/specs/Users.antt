@@ -1,4 +1,4 @@
--- How a word names a user.
+-- The names of users in words.
 use Rattle.std.specs.Prelude.{ℕ, List, ◌⊎◌}
 use Rattle.ods_base.specs.declared.file_id.Uic.{Uic}
 use Rattle.ods_text.specs.Users.{IsUser, IsUserInBrackets}

@@ -1,4 +1,4 @@
--- What the value of an option says.
+-- The value of an option.
 use Rattle.std.specs.Prelude.{ℕ, List, Option, Some, None, option_map}
 use Rattle.std.specs.Borrow.{Bor}
 
@@ -6,7 +6,7 @@ use Rattle.std.specs.Borrow.{Bor}
 abbrev pub value_of : Option (Bor (List ℕ)) → Option (List ℕ)
 value_of text = option_map (λ (s : Bor (List ℕ)). s.now) text
 
--- the text of the value, where there is one, spells the thing; without a text there is no thing
+-- the text of the value, if there is one, spells the thing; without a text there is no thing
 abbrev pub IsValue : {A : Type 0} → (List ℕ → A → Type 0) → Option (List ℕ) → Option A → Type 0
 IsValue P (Some text) (Some x) = P text x
 IsValue P (Some text) None = ⊥

@@ -1,30 +1,30 @@
-//! What commands ask for.
+//! The commands that words request.
 use ods_base::Uic;
 use ods_records::Wanted;
 
 /// A command.
 #[derive(Clone, Copy, Debug, PartialEq, Eq, Drop)]
 pub enum Action<'a> {
-    /// Lists names; with columns for what is known of each file where `long`, for IDs where `ids`; of directories with all below them where `below`.
+    /// Lists names: with columns of facts with `long`, with IDs with `ids`, and of directories with all below them with `below`.
     Ls {
         long: bool,
         ids: bool,
         below: bool,
     },
-    /// Finds files; only those that no directory names where `lost`. Where `deleted`, those that are deleted and whose headers are still there, with
-    /// columns for what is left of each where `long`.
+    /// Finds files: with `lost` only files that no directory names. With `deleted`, deleted files whose headers still exist, with columns for what is
+    /// left of each with `long`.
     Find {
         lost: bool,
         deleted: bool,
         long: bool,
     },
-    /// Shows what is known of files.
+    /// Shows the facts of files.
     Stat,
     /// Writes files to standard output.
     Cat(Wanted),
-    /// Writes files to the host: to this target, or where there is none into the working folder or to the last word. Where `below`, the files in a
-    /// directory and below it. Where `deleted`, deleted files by their IDs; where `partial`, what is left of those that are not whole too. Where
-    /// `dated`, each host file gets the creation date of its file.
+    /// Writes files to the host: to this target, or without one into the working folder or to the last word. With `below`, the files in a directory
+    /// and below it. With `deleted`, deleted files by their IDs; with `partial` also what is left of files that are not whole. With `dated`, each
+    /// host file gets the creation date of its file.
     Get {
         wanted: Wanted,
         target: Option<&'a str>,
@@ -33,7 +33,7 @@ pub enum Action<'a> {
         partial: bool,
         dated: bool,
     },
-    /// Writes an archive of files to standard output; records as lines where `text`.
+    /// Writes an archive of files to standard output; with `text` records become lines.
     Tar {
         text: bool,
     },
@@ -41,53 +41,53 @@ pub enum Action<'a> {
     Df,
     /// Shows the label, owner, size and layout of the volume.
     Info,
-    /// How many blocks directories have, or the largest files where a number is said.
+    /// Shows how many blocks directories have, or the largest files if a number is given.
     Du {
         top: Option<u32>,
     },
-    /// What is wrong with the image, all of it where `all`.
+    /// Checks the image, and with `all` prints every fault.
     Check {
         all: bool,
     },
-    /// Copies files out of an image that may be refused; records as lines where `text`. By the headers that a scan of all blocks finds where `scan`;
-    /// what is there of a file that is not whole too where `partial`.
+    /// Copies files out of an image that may be refused; with `text` records become lines. With `scan`, by the headers that a scan of all blocks
+    /// finds. With `partial`, also the available part of a file that is not whole.
     Rescue {
         text: bool,
         scan: bool,
         partial: bool,
     },
-    /// What differs between two images, IDs, dates, owners and protection too where `all`.
+    /// Shows how two images differ; with `all` also IDs, dates, owners and protection.
     Cmp {
         all: bool,
     },
     /// Changes the volume.
     Change(Change<'a>),
-    /// Mends what is wrong with the image; lost files are entered in the directory of the path `into`, where one is said.
+    /// Repairs the image. Lost files are entered in the directory at the path `into`, if one is given.
     Repair {
         kinds: Repairs,
         into: Option<&'a str>,
     },
-    /// Makes an image of this many blocks, with room for this many files beside the five reserved ones, where a number is said.
+    /// Makes an image of this many blocks, with room for this many files in addition to the five reserved ones, if a number is given.
     Init {
         blocks: u32,
         files: Option<u32>,
         label: Option<&'a str>,
     },
-    /// Obeys the commands in this file of the host, or in standard input where it is `-`; past those that are refused where `keep_going`.
+    /// Runs the commands in this file of the host, or in standard input if it is `-`. With `keep_going`, continues past commands that are refused.
     Commands {
         file: &'a str,
         keep_going: bool,
     },
 }
 
-/// A command that changes a volume. Its paths stand in the words.
+/// A command that changes a volume. Its paths are in the words.
 #[derive(Clone, Copy, Debug, PartialEq, Eq, Drop)]
 pub enum Change<'a> {
     /// Puts files of the host.
     Put(PutWords<'a>),
-    /// Puts the members of an archive: of the host file that the first word says, or of standard input; below the directory that the second word says.
+    /// Puts the members of an archive: the host file that the first word names, or standard input; below the directory that the second word names.
     Untar,
-    /// Copies files, in one piece where `contiguous`.
+    /// Copies files, in one piece with `contiguous`.
     Cp {
         contiguous: bool,
     },
@@ -95,27 +95,27 @@ pub enum Change<'a> {
     CpFrom(FromWords<'a>),
     /// Moves names, or gives files other names.
     Mv,
-    /// Removes names with their files: the entry alone where `entry_alone`, the highest version where `newest`.
+    /// Removes names with their files: only the entry with `entry_alone`, and the highest version with `newest`.
     Rm {
         entry_alone: bool,
         newest: bool,
     },
-    /// Removes all but the highest versions of each name, as many as `keep`, and their files.
+    /// Removes all but the `keep` highest versions of each name, and their files.
     Purge {
         keep: u32,
     },
-    /// Makes directories with room for this many names, where a number is said, and of this owner, where one is.
+    /// Makes directories with room for this many names, if a number is given, and with this owner, if one is given.
     Mkdir {
         names: Option<u32>,
         owner: Option<Uic>,
     },
     /// Removes empty directories.
     Rmdir,
-    /// Cuts a file behind this many bytes.
+    /// Cuts a file after this many bytes.
     Truncate {
         bytes: u64,
     },
-    /// Puts the bytes of a host file, which the second word says, behind the end of a file.
+    /// Appends the bytes of a host file, which the second word names, to a file.
     Append,
     /// Gives files this protection word.
     Chmod {
@@ -125,7 +125,7 @@ pub enum Change<'a> {
     Chown {
         owner: Uic,
     },
-    /// Gives the volume the label that this text says.
+    /// Gives the volume this label.
     Label {
         text: &'a str,
     },
@@ -136,52 +136,52 @@ pub enum Change<'a> {
 pub struct FromWords<'a> {
     /// The image of the other volume.
     pub from: &'a str,
-    /// All that is in a directory and below it.
+    /// Copies everything in a directory and below it.
     pub below: bool,
-    /// A version that is taken becomes the next one.
+    /// Gives the next version to a copy whose version is taken.
     pub next: bool,
-    /// Whether the copies are to be in one piece, where that is said.
+    /// Whether the copies are in one piece, if it is specified.
     pub contiguous: Option<bool>,
 }
 
 /// Which repairs are made.
 #[derive(Clone, Copy, Debug, PartialEq, Eq, Drop)]
 pub struct Repairs {
-    /// Blocks that files hold and that the storage bitmap says are free are marked as used.
+    /// Blocks that belong to files but are free in the storage bitmap are marked as used.
     pub used: bool,
-    /// Runs of files with blocks that other files hold too, or that are in the file twice, get blocks of their own.
+    /// Runs of files that share blocks with other files, or repeat blocks of the same file, get blocks of their own.
     pub share: bool,
-    /// Of two entries with one name and version the second gets the next version.
+    /// The second of two entries with one name and version gets the next version.
     pub double: bool,
     /// Entries that name no file are removed.
     pub names: bool,
-    /// Files that no directory names are entered in one.
+    /// Files that no directory names are entered in a directory.
     pub lost: bool,
-    /// Blocks that are marked as used and that no file holds become free.
+    /// Blocks that are marked as used but belong to no file are freed.
     pub free: bool,
 }
 
 /// How files are put.
 #[derive(Clone, Copy, Debug, PartialEq, Eq, Drop)]
 pub struct PutWords<'a> {
-    /// Lines as records.
+    /// Writes lines as records.
     pub text: bool,
-    /// Bytes as they are.
+    /// Writes bytes unchanged.
     pub binary: bool,
-    /// Bytes as they are, of this form: the first four bytes of the attributes.
+    /// Writes bytes unchanged, with this form: the first four bytes of the attributes.
     pub form: Option<[u8; 4]>,
-    /// The path of the file whose attributes the new ones get.
+    /// The path of the file whose attributes the new files get.
     pub like: Option<&'a str>,
-    /// Whether the new files are to be in one piece, where that is said.
+    /// Whether the new files are in one piece, if it is specified.
     pub contiguous: Option<bool>,
-    /// The file of that name is replaced.
+    /// Replaces an existing file with the same name.
     pub replace: bool,
-    /// Whose the new files are, where an owner is said.
+    /// The owner of the new files, if one is given.
     pub owner: Option<Uic>,
-    /// All that is in a folder of the host and below it.
+    /// Puts everything in a folder of the host and below it.
     pub below: bool,
-    /// What has no name on the volume is left out.
+    /// Leaves out entries that have no valid name on the volume.
     pub skip: bool,
-    /// Each new file gets the time at which its host file was changed.
+    /// Gives each new file the time at which its host file was changed.
     pub dated: bool,
 }

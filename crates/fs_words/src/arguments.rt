@@ -1,4 +1,4 @@
-//! Rows that say how a command is written, with its options and the words behind it.
+//! Rows that define the syntax of a command, with its options and the words after it.
 ghost use Rattle.std.specs.Prelude.{◌≡◌, ◌++◌, ◌∷◌, [], IfOk, false, map};
 ghost use Rattle.clap.specs.Simple.{app_of, new_app};
 ghost use Rattle.clap.specs.Walk.{rule_of};
@@ -7,18 +7,18 @@ ghost use Rattle.fs_words.specs.{Kinds.IsKindOf, Kinds.IsSpelledOf, Rules.as_pat
 use clap::{Arg, ArgAction, Command, value_parser};
 use std::alloc::{AllocError, Global};
 
-/// A command: how it is used, what it does, and the arguments that are its own.
+/// A command: its usage, its purpose, and its own arguments.
 #[derive(Clone, Copy)]
 pub(crate) struct Row<'a> {
     pub usage: &'a str,
     pub about: &'a str,
     pub arguments: &'a [Argument<'a>],
-    /// Which arguments cannot stand together, by their names.
+    /// Which arguments cannot be used together, by their names.
     pub conflicts: &'a [(&'a str, &'a str)],
 }
 
-/// An argument of a command. The first text is its name in a parse; of an option it is how the option is written, as `-l` or `--top`. The last text is
-/// its help. The text between them names its value in the help.
+/// An argument of a command. The first text is its name in a parse; for an option, it is the spelling, such as `-l` or `--top`. The last text is its
+/// help. The text between them names its value in the help.
 #[derive(Clone, Copy)]
 pub(crate) enum Argument<'a> {
     /// An option without a value.
@@ -31,7 +31,8 @@ pub(crate) enum Argument<'a> {
     Word(&'a str, &'a str, &'a str),
     /// One word that is a number of 64 bits.
     LargeNumber(&'a str, &'a str, &'a str),
-    /// Any number of words that are no paths of the volume. In a parse they are what paths are. Their name in the help, and their help.
+    /// Any number of words that are not paths of the volume. In a parse they have the name of paths. The texts are their name in the help, and their
+    /// help.
     Words(&'a str, &'a str),
     /// The same, one or more.
     SomeWords(&'a str, &'a str),
@@ -46,7 +47,7 @@ pub(crate) enum Argument<'a> {
 /// What the help says of paths.
 const PATHS_HELP: &str = "Paths on the volume, such as '[1,2]NOTES.TXT;3' or 1,2/NOTES.TXT";
 
-/// The command of this name and a row, as clap takes it.
+/// Returns the command of this name and row, in the form that clap takes.
 pub(crate) fn command_in<'a>(
     alloc: Global,
     name: &'a str,
@@ -164,7 +165,7 @@ fn words<'a>(arg: Arg<'a>, value: &'a str, help: &'a str, least: usize) -> Arg<'
     arg.value_name(value).num_args(least..).help(help)
 }
 
-/// An option as it is written: `--` and a word, or `-` and a letter.
+/// Adds the spelling of an option: `--` and a word, or `-` and a letter.
 pub(crate) fn with_spelling<'a>(arg: Arg<'a>, option: &'a str) -> Arg<'a>
     ensures rule { rule_of result ≡ spelled_as option.entry.now (rule_of arg.entry) }
     ensures same { IsSpelledOf arg.entry result }

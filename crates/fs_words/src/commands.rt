@@ -1,4 +1,4 @@
-//! The commands: each has a file with its row, and with what its words ask for.
+//! The commands: each has a file with its row, and with the request that its words specify.
 ghost use Rattle.std.specs.Prelude.{◌≡◌, IfErr, IfOk};
 ghost use Rattle.clap.specs.Simple.{app_of};
 ghost use Rattle.fs_words.specs.{Asked.Asks, Refused.HasReason, Refused.IsUnasked, Rules.command_app, Rules.own_rules, Rules.rules_in};
@@ -40,7 +40,7 @@ use clap::{ArgMatches, Command};
 use ods_words::WordsFault;
 use std::alloc::{AllocError, Global};
 
-/// A command with what is its own alone.
+/// Returns a command with only its own arguments.
 #[tactic(auto, unfolding(crate::specs::Rules::own_rules, crate::specs::Rules::command_app))]
 pub(crate) fn command_of<'a>(alloc: Global, verb: Verb) -> Result<Command<'a>, AllocError>
     ensures { IfOk result (λ c. app_of c ≡ command_app verb) }
@@ -86,7 +86,7 @@ fn row_command<'a>(alloc: Global, verb: Verb, row: &Row<'a>) -> Result<Command<'
     Ok(command)
 }
 
-/// What the words of a command ask for; `out` is what `-o` says.
+/// Returns the request in the words of a command. `out` is the value of `-o`.
 pub(crate) fn action_of<'a>(
     alloc: Global,
     verb: Verb,

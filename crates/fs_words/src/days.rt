@@ -11,7 +11,7 @@ const MONTHS: [[u8; 3]; 12] = [
     *b"NOV", *b"DEC",
 ];
 
-/// Whether a stamp is a true day of its month and a time of the day. Years 70 to 99 are 19YY, else 20YY.
+/// Returns whether a stamp is a valid day of its month and a time of the day. Years 70 to 99 are 19YY, otherwise 20YY.
 pub fn is_true_day(stamp: &Stamp) -> bool
     ensures { result ≡ is_true_stamp stamp.now }
 {

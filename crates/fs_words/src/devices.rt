@@ -66,7 +66,7 @@ const DEVICES: [Device<'static>; 13] = [
     },
 ];
 
-/// How many blocks a volume on this device has. Small letters are capitals.
+/// Returns how many blocks a volume on this device has. Small letters count as capitals.
 pub fn device_blocks(name: &str) -> Option<u32>
     ensures { result ≡ device_size name.now }
 {

@@ -1,4 +1,4 @@
-//! The options of `cat`, `get` and `rescue` for the form in which files come, and how much of them.
+//! The options of `cat`, `get` and `rescue` for the form of files, and for how much of them is read.
 ghost use Rattle.fs_words.specs.Asked.{IsWanted};
 
 use crate::arguments::Argument;
@@ -23,13 +23,13 @@ pub(crate) const RAW: Argument<'static> = Argument::Flag("--raw", "Write the byt
 /// `--partial`.
 pub(crate) const PARTIAL: Argument<'static> = Argument::Flag(
     "--partial",
-    "Copy damaged files too: the blocks up to the first that is missing, with zeros for those outside the volume",
+    "Copy damaged files too: the blocks up to the first that is missing, with zeros for blocks outside the volume",
 );
 
-/// One form is asked for at most.
+/// The form options that exclude each other.
 pub(crate) const FORMS_APART: [(&str, &str); 3] = [("-t", "-b"), ("-t", "--raw"), ("-b", "--raw")];
 
-/// The form that is asked for. Clap has refused two of them.
+/// Returns the requested form. Clap has refused two of them.
 pub(crate) fn wanted_form(own: &ArgMatches<'_>) -> Wanted
     ensures { IsWanted own.now result }
 {

@@ -11,7 +11,7 @@ use std::alloc::{AllocError, Global};
 const USAGE: &str =
     "usage: f11fs [OPTIONS] IMAGE COMMAND [WORD..]\nf11fs --help names the commands";
 
-/// That words are wanting: all of them, or the command.
+/// Returns the message that words are missing: all of them, or the command.
 #[tactic(auto, unfolding(crate::specs::Hints::usage, crate::specs::Hints::wanting_line))]
 pub(crate) fn wanting(alloc: Global, all: bool) -> Result<WordsFault, AllocError>
     ensures { IfOk result (IsWrong (if all then usage else wanting_line)) }
@@ -22,7 +22,7 @@ pub(crate) fn wanting(alloc: Global, all: bool) -> Result<WordsFault, AllocError
     Ok(WordsFault::Wrong(format!(in alloc; "error: a command is wanting\n{USAGE}")?))
 }
 
-/// That the word behind the image is no command; the image may stand behind it.
+/// Returns the message that the word after the image is not a command. The image may come after it.
 pub(crate) fn before_image(alloc: Global, image: &str, word: &str) -> Result<WordsFault, AllocError>
     ensures { IfOk result (IsMisplaced image.now word.now) }
 {
@@ -42,7 +42,7 @@ fn misplaced(alloc: Global, image: &str, word: &str) -> Result<WordsFault, Alloc
     )?))
 }
 
-/// That a word is no command, and which one is near.
+/// Returns the message that a word is not a command, and which command is near.
 pub(crate) fn no_command(alloc: Global, word: &str) -> Result<WordsFault, AllocError>
     ensures { IfOk result (IsUnknown word.now) }
 {

@@ -1,4 +1,4 @@
-//! The order of the sectors in an image, as words name it.
+//! The order of the sectors in an image, as words specify it.
 ghost use Rattle.std.specs.Prelude.{IfErr, IfNone, IfOk, IfSome};
 ghost use Rattle.fs_words.specs.declared.layering.Layering.{Layering as ALayering};
 ghost use Rattle.fs_words.specs.{Layerings.IsLayering, Refused.HasReason, Refused.IsNoValue, Values.IsValue, Values.value_of};
@@ -8,16 +8,16 @@ use ods_order::Order;
 use ods_words::WordsFault;
 use std::alloc::Global;
 
-/// How the sectors of a volume stand in an image.
+/// How the sectors of a volume are ordered in an image.
 #[derive(Clone, Copy, Debug, PartialEq, Eq, Drop)]
 pub enum Layering {
-    /// The blocks of the volume stand one behind another.
+    /// The blocks of the volume are consecutive.
     Plain,
-    /// The sectors stand as on the surface of a floppy.
+    /// The sectors are in the order of the surface of a floppy.
     Physical(Order),
 }
 
-/// The order that the value of an option names, where there is one.
+/// Returns the order in the value of an option, if there is one.
 pub(crate) fn read_layering(
     alloc: Global,
     text: Option<&str>,
@@ -30,7 +30,11 @@ pub(crate) fn read_layering(
     };
     match layering_of(text) {
         Some(layering) => Ok(Some(layering)),
-        None => Err(wrong(alloc, text, "is no order: say plain, rx01, rx02 or rx50")?),
+        None => Err(wrong(
+            alloc,
+            text,
+            "is not a valid order: use plain, rx01, rx02 or rx50",
+        )?),
     }
 }
 

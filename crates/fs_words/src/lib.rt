@@ -1,6 +1,6 @@
-//! The words of `f11fs`: what the command line asks for, and the words of a line in a file of commands.
-//! Clauses say which options serve a command, which words clap takes for which command, and what the command asks for by them. `tests/fs` checks the
-//! texts of the help, and what is said of words that are refused, on the built program.
+//! The words of `f11fs`: the requests of the command line, and of a line in a file of commands.
+//! Clauses state which options serve a command, which words clap takes for which command, and the resulting request. `tests/fs` checks the
+//! texts of the help, and the messages for refused words, on the built program.
 #![tactic(auto)]
 
 mod actions;

@@ -32,13 +32,14 @@ enum Stand {
     Between,
     /// In a word.
     Within,
-    /// Behind this quote, which is not closed.
+    /// After this quote, which is not closed.
     Quoted(char),
-    /// In a remark.
+    /// In a comment.
     Remark,
 }
 
-/// The words of a line, without its line feed or carriage return and line feed: spaces and tabs part them, what stands in `'` or `"` holds together, and `#` where a word would begin opens a remark.
+/// Splits a line into words, without its line feed, or its carriage return and line feed. Spaces and tabs separate words; text in `'` or `"` stays
+/// together; and `#` at the start of a word begins a comment.
 pub fn line_words(alloc: Global, line: &str) -> Result<Vec<String>, LineFault>
     ensures words { IfOk result (λ v. words_in line.now ≡ Some (map (λ s. string_bytes s) v.items)) }
     ensures open { IfErr result (λ e. e ≡ LineFault.Open → words_in line.now ≡ None) }

@@ -1,4 +1,4 @@
-//! The numbers that words say, in decimal.
+//! The decimal numbers in words.
 ghost use Rattle.std.specs.Prelude.{◌++◌, IfErr, IfOk, codes};
 ghost use Rattle.ods_text.specs.Numbers.{IsLargeNumber, IsNumber};
 ghost use Rattle.ods_words.specs.Telling.{IsWrong};
@@ -8,7 +8,7 @@ use ods_text::{read_decimal, read_large};
 use ods_words::WordsFault;
 use std::alloc::{AllocError, Global};
 
-/// The number that the value of an option says, where there is one. Clap has refused a word that is no number.
+/// Returns the number in the value of an option, if there is one. Clap has refused a word that is not a number.
 pub(crate) fn number_of(alloc: Global, text: Option<&str>) -> Result<Option<u32>, WordsFault>
     ensures value { IfOk result (IsValue IsNumber (value_of text.entry)) }
     ensures refused { IfErr result (HasReason (IsNoValue IsNumber (value_of text.entry))) }
@@ -22,7 +22,7 @@ pub(crate) fn number_of(alloc: Global, text: Option<&str>) -> Result<Option<u32>
     }
 }
 
-/// The number that a word says, which may need 64 bits.
+/// Returns the number in a word, which may need 64 bits.
 pub(crate) fn large_number_of(alloc: Global, text: &str) -> Result<u64, WordsFault>
     ensures value { IfOk result (IsLargeNumber text.now) }
     ensures refused { IfErr result (HasReason (SpellsNone IsLargeNumber text.now)) }

@@ -1,4 +1,4 @@
-//! The options of `f11fs`: how each is said, what it does, and which commands it serves. The refusal of an option that does nothing for a command
+//! The options of `f11fs`: their spelling, their effect, and the commands that they serve. The refusal of an option that does nothing for a command
 //! and the help of the command both come from here.
 ghost use Rattle.std.specs.Prelude.{◌≡◌, false, is_some};
 ghost use Rattle.clap.specs.Simple.{new_rule};
@@ -12,32 +12,32 @@ use clap::{Arg, ArgAction, value_parser};
 use ods_base::MAX_BLOCKS;
 use std::alloc::Global;
 
-/// An option that may stand before IMAGE or behind the command.
+/// An option that may come before IMAGE or after the command.
 #[derive(Clone, Copy, Debug, PartialEq, Eq)]
 pub enum Choice {
     /// `-o`: the file of the host to write to.
     Out,
     /// `--backup`: keeps the old image.
     Backup,
-    /// `--break-links`: changes an image with several hard links under this name alone.
+    /// `--break-links`: changes an image with several hard links only under this name.
     BreakLinks,
     /// `-n`: writes nothing, and prints what would be done.
     OnlyTells,
     /// `--force`: replaces files of the host, or changes an image that another process has open.
     Force,
-    /// `--json`: prints JSON, an object a line.
+    /// `--json`: prints JSON, one object per line.
     Json,
     /// `--stamp`: the time of new files.
     Stamp,
-    /// `-u`: the user whose rights are asked.
+    /// `-u`: the user whose rights are checked.
     User,
-    /// `-q`: shows no progress, and no remarks that are no faults.
+    /// `-q`: shows no progress, and no remarks that are not faults.
     Quiet,
-    /// `--keep-going`: goes on past commands of a file that are refused.
+    /// `--keep-going`: continues past refused commands of a file.
     KeepGoing,
-    /// `--blocks`: the size of the volume in blocks, whatever the image says.
+    /// `--blocks`: the size of the volume in blocks, regardless of the image.
     Blocks,
-    /// `--order`: how the sectors of the volume stand in the image.
+    /// `--order`: how the sectors of the volume are ordered in the image.
     Order,
 }
 
@@ -57,7 +57,7 @@ pub(crate) const CHOICES: [Choice; 12] = [
     Choice::Order,
 ];
 
-/// Whether a command may do something with an option.
+/// Returns whether an option may have an effect for a command.
 pub fn serves(choice: Choice, verb: Verb) -> bool
     ensures { result ≡ option_serves choice verb }
 {
@@ -99,7 +99,7 @@ pub fn serves(choice: Choice, verb: Verb) -> bool
     }
 }
 
-/// Whether `--json` does something for a command only beside `-n`: what it prints then is what would be done, and nothing else.
+/// Returns whether `--json` has an effect for a command only with `-n`. It then prints only what would be done.
 pub fn prints_only_plans(verb: Verb) -> bool
     ensures { result ≡ prints_plans verb }
 {
@@ -107,7 +107,7 @@ pub fn prints_only_plans(verb: Verb) -> bool
 }
 
 impl Choice {
-    /// How it is written. A parse has it by this name.
+    /// Returns its spelling, which is its name in a parse.
     pub(crate) fn word<'a>(self) -> &'a str
         ensures { result.now ≡ option_text self }
     {
@@ -127,7 +127,7 @@ impl Choice {
         }
     }
 
-    /// The name of its value, where it has one.
+    /// Returns the name of its value, if it has one.
     pub(crate) fn value<'a>(self, verb: Option<Verb>) -> Option<&'a str>
         ensures { is_some result ≡ has_value self }
     {
@@ -142,17 +142,17 @@ impl Choice {
         }
     }
 
-    /// What it does for a command, or where none is said for all that it serves.
+    /// Returns its effect for a command, or without one for all commands that it serves.
     fn help<'a>(self, verb: Option<Verb>) -> &'a str {
         match self {
             Choice::Out if verb == Some(Verb::Get) => {
                 "Write to this host file or folder. - is standard output"
             }
             Choice::Out if verb.is_none() => {
-                "Write the changed image to FILE, and keep IMAGE as it is. FILE must not exist. For get: write to FILE"
+                "Write the changed image to FILE, and leave IMAGE unchanged. FILE must not exist. For get: write to FILE"
             }
             Choice::Out => {
-                "Write the changed image to FILE, and keep IMAGE as it is. FILE must not exist"
+                "Write the changed image to FILE, and leave IMAGE unchanged. FILE must not exist"
             }
             Choice::Backup => "Keep the old image as IMAGE~",
             Choice::BreakLinks => {
@@ -166,13 +166,13 @@ impl Choice {
             Choice::Quiet => "Hide progress and remarks, but not errors",
             Choice::KeepGoing => "With -f: skip a command that f11fs refuses, and go on",
             Choice::Blocks => {
-                "Assume that the volume has N blocks, 1 to 1048576, whatever the image says"
+                "Assume that the volume has N blocks, 1 to 1048576, whatever size the image states"
             }
             Choice::Order => order_help(verb),
         }
     }
 
-    /// The option, as a parse takes it; the help of a command that it does not serve leaves it out.
+    /// Returns the option in the form that a parse takes. The help of a command that it does not serve leaves it out.
     #[tactic(auto, unfolding(crate::specs::Rules::choice_rule))]
     pub(crate) fn arg<'a>(self, alloc: Global, verb: Option<Verb>) -> Arg<'a>
         ensures rule { rule_of result ≡ choice_rule self }

@@ -1,5 +1,5 @@
-//! The words in two parts: what stands before the command, and the command with what stands behind it. An image may have any name, so a word is a
-//! command by its place alone.
+//! The words in two parts: the words before the command, and the command with the words after it. An image may have any name, so only its position
+//! makes a word a command.
 ghost use Rattle.std.specs.Prelude.{◌≡◌, ◌-◌, IfErr, IfOk, drop, length, map, true};
 ghost use Rattle.clap.specs.Simple.{app_of};
 ghost use Rattle.clap.specs.Takes.{takes};
@@ -8,7 +8,7 @@ ghost use Rattle.ods_words.specs.Telling.{IsToldOf};
 ghost use Rattle.fs_words.specs.{Parses.IsKindAt, Parses.IsParseOf, Rules.choice_rule, Rules.front_app, Rules.image_rules, Rules.program_app, Rules.whole_app, Rules.with_rules, Saying.rest_among};
 
 use crate::commands::command_of;
-use crate::help::{ABOUT, AFTER_HELP, VERSION};
+use crate::help::{ABOUT, AFTER_HELP};
 use crate::options::{CHOICES, Choice};
 use crate::verbs::{VERBS, Verb};
 use clap::error::ErrorKind;
@@ -17,22 +17,24 @@ use ods_words::{WordsFault, tell_error};
 use std::alloc::{AllocError, Global};
 use std::convert::AsStr;
 
-/// What is found before the command, an image where `has_image`. The words from the command's name on are kept together, as `rest`.
+/// Returns the parse of the words before the command, which begin with an image if `has_image`. The words from the name of the command on are kept
+/// together, as `rest`.
 pub(crate) fn first_matches<'a, S: AsStr>(
     alloc: Global,
     words: &'a [S],
+    version: &'a str,
     has_image: bool,
 ) -> Result<ArgMatches<'a>, Error>
     ensures found { IfOk result (IsParseOf (program_app has_image) (map S.text words.entry.now)) }
     ensures refused { IfErr result (λ e. takes (program_app has_image) (map S.text words.entry.now) ≡ true → kind_of e ≡ ErrorKind.OutOfMemory) }
     ensures kinds { IfErr result (λ e. IsKindAt (program_app has_image) (map S.text words.entry.now) (kind_of e)) }
 {
-    let command = program(alloc, has_image)?;
+    let command = program(alloc, version, has_image)?;
     command.try_get_matches_from(words)
 }
 
 /// What may stand before the command, and the words from its name on.
-fn program<'a>(alloc: Global, has_image: bool) -> Result<Command<'a>, AllocError>
+fn program<'a>(alloc: Global, version: &'a str, has_image: bool) -> Result<Command<'a>, AllocError>
     ensures { IfOk result (λ c. app_of c ≡ program_app has_image) }
 {
     let rest = Arg::new(alloc, "rest")
@@ -40,11 +42,11 @@ fn program<'a>(alloc: Global, has_image: bool) -> Result<Command<'a>, AllocError
         .num_args(0..)
         .trailing_var_arg(true)
         .hide(true);
-    let command = front(alloc, has_image)?.arg(rest)?;
+    let command = front(alloc, version, has_image)?.arg(rest)?;
     Ok(command)
 }
 
-/// The words from the name of the command on: as many of the last ones as were kept together.
+/// Returns the words from the name of the command on: the last words that were kept together.
 pub(crate) fn rest_of<'a, S>(before: &ArgMatches<'a>, words: &'a [S]) -> &'a [S]
     ensures { result.now ≡ drop (length words.now - length (rest_among before.now)) words.now }
 {
@@ -57,14 +59,14 @@ pub(crate) fn rest_of<'a, S>(before: &ArgMatches<'a>, words: &'a [S]) -> &'a [S]
         .unwrap_or(&[])
 }
 
-/// The words behind the first one.
+/// Returns the words after the first one.
 pub(crate) fn behind_first<'a, S>(words: &'a [S]) -> &'a [S]
     ensures { result.now ≡ drop 1 words.now }
 {
     words.get(1..).unwrap_or(&[])
 }
 
-/// What is found behind the name of a command.
+/// Returns the parse of the words after the name of a command.
 pub(crate) fn command_matches<'a, S: AsStr>(
     alloc: Global,
     verb: Verb,
@@ -104,7 +106,7 @@ fn with_options<'a>(
 }
 
 /// What may stand before the command, the image where `has_image`.
-fn front<'a>(alloc: Global, has_image: bool) -> Result<Command<'a>, AllocError>
+fn front<'a>(alloc: Global, version: &'a str, has_image: bool) -> Result<Command<'a>, AllocError>
     ensures { IfOk result (λ c. app_of c ≡ front_app has_image) }
 {
     let file = Arg::new(alloc, "commands")
@@ -115,7 +117,7 @@ fn front<'a>(alloc: Global, has_image: bool) -> Result<Command<'a>, AllocError>
     let command = Command::new(alloc, "f11fs")
         .about(ABOUT)
         .after_help(AFTER_HELP)
-        .version(VERSION)
+        .version(version)
         .override_usage("f11fs [OPTIONS] IMAGE COMMAND [WORD..]")
         .no_binary_name(true)
         .disable_help_subcommand(true);
@@ -144,7 +146,7 @@ fn with_image<'a>(
 }
 
 /// The help of all commands, or of the one whose name is the first word that is no option: `f11fs ls --help`.
-fn help<S: AsStr>(alloc: Global, words: &[S]) -> Result<String, AllocError> {
+fn help<S: AsStr>(alloc: Global, words: &[S], version: &str) -> Result<String, AllocError> {
     let first = match words.iter().find(|word| !word.as_str().starts_with('-')) {
         Some(word) => Verb::of_name(word.as_str()),
         None => None,
@@ -152,23 +154,24 @@ fn help<S: AsStr>(alloc: Global, words: &[S]) -> Result<String, AllocError> {
     if let Some(verb) = first {
         return whole_command(alloc, verb)?.render_help();
     }
-    let mut command = front(alloc, true)?;
+    let mut command = front(alloc, version, true)?;
     for verb in &VERBS {
         command = command.subcommand(command_of(alloc, *verb)?)?;
     }
     command.render_help()
 }
 
-/// What is said where clap found no words of the program's: the first of `words` may name a command, whose help is asked for.
+/// Returns the message if clap accepts no words of the program. The first of `words` may name a command, whose help is requested.
 pub(crate) fn tell<S: AsStr>(
     alloc: Global,
     error: &Error,
     words: &[S],
+    version: &str,
 ) -> Result<WordsFault, AllocError>
     ensures { IfOk result (IsToldOf (kind_of error.now)) }
 {
     match error.kind() {
-        ErrorKind::DisplayHelp => Ok(WordsFault::Help(help(alloc, words)?)),
+        ErrorKind::DisplayHelp => Ok(WordsFault::Help(help(alloc, words, version)?)),
         _ => tell_error(alloc, error),
     }
 }

@@ -1,9 +1,9 @@
-//! Where the words say that the blocks of new files stand.
+//! Where the blocks of new files are allocated, according to the words.
 ghost use Rattle.fs_words.specs.Asked.{IsContiguity};
 
 use clap::ArgMatches;
 
-/// Whether the new files are to be in one piece, where that is said.
+/// Returns whether the new files must be in one piece, if it is specified.
 pub(crate) fn contiguity(own: &ArgMatches<'_>) -> Option<bool>
     ensures { IsContiguity own.now result }
 {

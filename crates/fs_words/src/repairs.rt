@@ -1,4 +1,4 @@
-//! Which repairs words ask for.
+//! The repairs that words request.
 ghost use Rattle.std.specs.Prelude.{◌≡◌, IfErr, IfOk, MatchOption, map, false, true};
 ghost use Rattle.std.specs.List.{list_all, list_any};
 ghost use Rattle.fs_words.specs.{Refused.HasReason, RepairWords.AreKinds, RepairWords.HasUnknown, RepairWords.asks_for, RepairWords.names_repair, RepairWords.repairs_in};
@@ -8,7 +8,7 @@ use crate::said::wrong;
 use ods_words::WordsFault;
 use std::alloc::Global;
 
-/// The repairs that these words ask for, where each names one.
+/// Returns the repairs that these words name. Each word must name one.
 #[tactic(auto, using(crate::proofs::RepairLists::all_known, crate::proofs::RepairLists::one_unknown))]
 pub(crate) fn known_kinds(alloc: Global, words: &[&str]) -> Result<Repairs, WordsFault>
     ensures asked { IfOk result (AreKinds (map (λ w. w.now) words.now)) }
@@ -18,7 +18,7 @@ pub(crate) fn known_kinds(alloc: Global, words: &[&str]) -> Result<Repairs, Word
         return Err(wrong(
             alloc,
             word,
-            "names no repair: say used, share, double, names, lost, free or all",
+            "is not a repair: KIND is used, share, double, names, lost, free or all",
         )?);
     }
     Ok(repairs_in(words))

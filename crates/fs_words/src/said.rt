@@ -1,4 +1,4 @@
-//! What the words say of the options that may stand before IMAGE or behind the command.
+//! The options in the words, which may come before IMAGE or after the command.
 ghost use Rattle.std.specs.Prelude.{◌≡◌, ◌++◌, IfOk, codes, map};
 ghost use Rattle.ods_words.specs.Telling.{IsWrong};
 ghost use Rattle.fs_words.specs.{Options.option_text, Saying.IsFlag, Saying.IsSetAmong, Saying.paths_among, Saying.text_among, Saying.text_said, Values.value_of};
@@ -8,7 +8,7 @@ use clap::ArgMatches;
 use ods_words::WordsFault;
 use std::alloc::{AllocError, Global};
 
-/// The options before the command, where there were any words before it, and those behind it. What stands behind it counts where both say something.
+/// The options before the command, if there were words before it, and the options after it. If both specify one, the latter counts.
 #[derive(Clone, Copy)]
 pub(crate) struct Said<'b, 'm, 'a> {
     pub before: Option<&'b ArgMatches<'a>>,
@@ -16,14 +16,14 @@ pub(crate) struct Said<'b, 'm, 'a> {
 }
 
 impl<'b, 'm, 'a> Said<'b, 'm, 'a> {
-    /// Whether an option without a value was said.
+    /// Returns whether an option without a value is given.
     pub fn flag(&self, choice: Choice) -> bool
         ensures { IsFlag self.now (option_text choice) result }
     {
         is_said(self.before, choice.word()) || is_said(self.own, choice.word())
     }
 
-    /// The value of an option.
+    /// Returns the value of an option.
     pub fn text(&self, choice: Choice) -> Option<&'a str>
         ensures { value_of result ≡ text_said self.now (option_text choice) }
     {
@@ -33,7 +33,7 @@ impl<'b, 'm, 'a> Said<'b, 'm, 'a> {
         }
     }
 
-    /// The paths behind the command.
+    /// Returns the paths after the command.
     pub fn paths(&self, alloc: Global) -> Result<Vec<&'a str>, AllocError>
         ensures { IfOk result (λ paths. map (λ s. s.now) paths.items ≡ paths_among self.now.own) }
     {
@@ -67,7 +67,7 @@ fn text_in<'a>(matches: Option<&ArgMatches<'a>>, id: &str) -> Option<&'a str>
     }
 }
 
-/// That a word is not what it should be.
+/// Returns the message that a word is not valid.
 pub(crate) fn wrong(alloc: Global, word: &str, why: &str) -> Result<WordsFault, AllocError>
     ensures { IfOk result (IsWrong (codes "error: '" ++ word.now ++ codes "' " ++ why.now)) }
 {

@@ -1,4 +1,4 @@
-//! How words name users.
+//! The names of users in words.
 ghost use Rattle.std.specs.Prelude.{IfErr, IfOk, codes};
 ghost use Rattle.clap.specs.Words.{first_value, found_of};
 ghost use Rattle.ods_text.specs.One.{IsTheOne};
@@ -12,9 +12,9 @@ use ods_words::WordsFault;
 use std::alloc::Global;
 
 /// What is said of a text that is no owner.
-const NO_OWNER: &str = "is no owner, as [1,2]";
+const NO_OWNER: &str = "is not a valid owner, such as [1,2]";
 
-/// The user that a text says, as `[1,2]` or `1,2`, in octal.
+/// Returns the user in a text, such as `[1,2]` or `1,2`, in octal.
 pub(crate) fn user_of(text: &str) -> Option<Uic>
     ensures { IsTheOne (IsSaid text.now) result }
 {
@@ -27,7 +27,7 @@ pub(crate) fn user_of(text: &str) -> Option<Uic>
     Some(Uic { group, member })
 }
 
-/// The user that the value of an option says, where there is one; `why` is what is wrong with another text.
+/// Returns the user in the value of an option, if there is one. `why` states what is wrong with another text.
 pub(crate) fn said_user(
     alloc: Global,
     text: Option<&str>,
@@ -45,7 +45,7 @@ pub(crate) fn said_user(
     }
 }
 
-/// The owner that a word says; of another text why it is none.
+/// Returns the owner in a word, or why there is none.
 pub(crate) fn new_owner_of(alloc: Global, text: &str) -> Result<Uic, WordsFault>
     ensures value { IfOk result (IsSaid text.now) }
     ensures refused { IfErr result (HasReason (SpellsNone IsSaid text.now)) }
@@ -56,7 +56,7 @@ pub(crate) fn new_owner_of(alloc: Global, text: &str) -> Result<Uic, WordsFault>
     }
 }
 
-/// The owner that `--owner` says.
+/// Returns the owner in `--owner`, if it is given.
 pub(crate) fn owner_of(alloc: Global, own: &ArgMatches<'_>) -> Result<Option<Uic>, WordsFault>
     ensures value { IfOk result (IsValue IsSaid (first_value (found_of own.now) (codes "--owner"))) }
     ensures refused { IfErr result (HasReason (IsNoValue IsSaid (first_value (found_of own.now) (codes "--owner")))) }

@@ -1,4 +1,4 @@
-//! The commands, and which one a wrong name is near to.
+//! The commands, and the command that a wrong name is near to.
 ghost use Rattle.std.specs.Prelude.{◌≡◌, ◌++◌, ◌∷◌, [], IfOk, List, find};
 ghost use Rattle.std.specs.Str.{bytes_eq};
 ghost use Rattle.fs_words.specs.declared.verbs.Verb.{Verb};
@@ -6,14 +6,14 @@ ghost use Rattle.fs_words.specs.{Hints.IsClosest, Hints.IsNear, Hints.changes_to
 
 use std::alloc::{AllocError, Global};
 
-/// A command, by its name; `File` is a file of commands.
+/// A command, by its name. `File` stands for a file of commands.
 #[derive(Clone, Copy, Debug, PartialEq, Eq)]
 pub enum Verb {
     /// `ls`: lists names in directories.
     Ls,
     /// `find`: lists the paths of all files.
     Find,
-    /// `stat`: shows what is known of a file.
+    /// `stat`: shows the facts of files.
     Stat,
     /// `cat`: writes files to standard output.
     Cat,
@@ -49,7 +49,7 @@ pub enum Verb {
     Rmdir,
     /// `truncate`: cuts a file.
     Truncate,
-    /// `append`: puts a file of the host behind one of the volume.
+    /// `append`: appends a file of the host to a file of the volume.
     Append,
     /// `chmod`: gives files another protection.
     Chmod,
@@ -59,11 +59,11 @@ pub enum Verb {
     Label,
     /// `untar`: puts the files of an archive into the volume.
     Untar,
-    /// `repair`: mends faults and findings of an image.
+    /// `repair`: repairs faults and findings of an image.
     Repair,
     /// `init`: makes an image of a new volume.
     Init,
-    /// `-f`: obeys the commands in a file.
+    /// `-f`: runs the commands in a file.
     File,
 }
 
@@ -99,7 +99,7 @@ pub(crate) const VERBS: [Verb; 27] = [
 ];
 
 impl Verb {
-    /// Its name; that of a file of commands is the option that says one.
+    /// Returns its name. The name of a file of commands is the option that specifies one.
     pub(crate) fn name<'a>(self) -> &'a str
         ensures { result.now ≡ verb_text self }
     {
@@ -135,14 +135,14 @@ impl Verb {
         }
     }
 
-    /// The command of this name. No name says a file of commands.
+    /// Returns the command of this name. No name selects a file of commands.
     pub(crate) fn of_name(word: &str) -> Option<Verb>
         ensures { result ≡ verb_named word.now }
     {
         first_named(&VERBS, word)
     }
 
-    /// Whether it changes a volume.
+    /// Returns whether it changes a volume.
     pub fn changes(self) -> bool
         ensures { result ≡ verb_changes self }
     {
@@ -187,8 +187,8 @@ fn first_named(verbs: &[Verb], word: &str) -> Option<Verb>
     None
 }
 
-/// The name of the command that this word is near to: what another program calls it, or the name that takes the fewest changes of a letter, at most
-/// one where the word has up to four letters, else two.
+/// Returns the command that this word is near to: the name that another program uses for it, or the name that needs the fewest letter changes. At
+/// most one change counts for a word of up to four letters, otherwise two.
 pub(crate) fn nearest(alloc: Global, word: &str) -> Result<Option<&'static str>, AllocError>
     ensures { IfOk result (λ near. IsNear word.now (value_of near)) }
 {

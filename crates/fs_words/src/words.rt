@@ -1,4 +1,4 @@
-//! What the words of a command line, or of a line in a file of commands, ask for.
+//! The request in the words of a command line, or of a line in a file of commands.
 ghost use Rattle.std.specs.Prelude.{◌≡◌, ◌++◌, ◌&&◌, true, false, All, IfErr, IfOk, OnOk, codes, drop, is_some, map, not};
 ghost use Rattle.ods_words.specs.Telling.{IsWrong};
 ghost use Rattle.fs_words.specs.{Found.AreOfCommand, Found.AreOfFile, Found.IsFound, Found.IsSaving, Found.IsStamp, Found.PlansWhereJson, Found.ServesWhereSaid, Names.verb_text, Options.option_serves, Options.option_text, Options.options, Parts.AreWordsOf, Parts.IsLineOf, Refused.AreNoWords, Refused.HasIdle, Refused.HasReason, Refused.IsBeside, Refused.IsIdle, Refused.IsJsonAlone, Refused.IsNoCommand, Refused.IsNoFile, Refused.IsNoLine, Refused.IsNoValue, Saying.text_said, Values.IsValue};
@@ -21,47 +21,47 @@ use ods_words::{WordsFault, say_wrong};
 use std::alloc::{AllocError, Global};
 use std::convert::AsStr;
 
-/// What the words ask for.
+/// The request in the words.
 #[derive(Drop)]
 pub struct Words<'a> {
     /// The path of the image.
     pub image: &'a str,
     pub action: Action<'a>,
-    /// The words behind the command: paths on the volume.
+    /// The words after the command: paths on the volume.
     pub paths: Vec<&'a str>,
-    /// A host file may be replaced.
+    /// Whether a host file may be replaced.
     pub force: bool,
-    /// What is printed is JSON, an object a line.
+    /// Whether the output is JSON, an object per line.
     pub json: bool,
-    /// Neither progress is shown nor remarks that are no faults.
+    /// Whether progress, and remarks that are not faults, are hidden.
     pub quiet: bool,
-    /// Who reads: with none every file is read, as the keeper of the image may. Who changes: with none [1,1].
+    /// The user. A read without one reads every file, as the keeper of the image may. A change without one is made by [1,1].
     pub user: Option<Uic>,
-    /// The time that new files get; with none that of the host.
+    /// The time of new files. Without one, the time of the host applies.
     pub stamp: Option<Stamp>,
     /// How a changed image is saved.
     pub saving: Saving<'a>,
-    /// How many blocks the volume has, whatever the image says.
+    /// How many blocks the volume has, regardless of the image.
     pub blocks: Option<u32>,
-    /// How the sectors of the volume stand in the image, where it is said; with none `f11fs` looks itself.
+    /// How the sectors of the volume are ordered in the image. Without a value, `f11fs` detects the order.
     pub order: Option<Layering>,
 }
 
 /// How a changed image is saved.
 #[derive(Clone, Copy, Debug, PartialEq, Eq, Drop)]
 pub struct Saving<'a> {
-    /// The new file of the host that it is written to, in place of the image.
+    /// The new file of the host that receives the image, instead of the image file.
     pub out: Option<&'a str>,
-    /// The old image is kept, under its name with a tilde.
+    /// Whether the old image is kept, under its name with a tilde.
     pub backup: bool,
-    /// Nothing is written; it is told what would be.
+    /// Whether nothing is written, and the command only prints what it would write.
     pub only_tells: bool,
-    /// An image with several names is changed under this one alone.
+    /// Whether an image with several names is changed only under this name.
     pub break_links: bool,
 }
 
 impl Saving<'_> {
-    /// Whether nothing is said of saving.
+    /// Returns whether no option about saving is given.
     pub fn says_nothing(&self) -> bool
         ensures { result ≡ (not (is_some self.now.out) && (not self.now.backup && (not self.now.only_tells && not self.now.break_links))) }
     {
@@ -69,14 +69,18 @@ impl Saving<'_> {
     }
 }
 
-/// What the words after the program's name ask for.
-pub fn parse_words<'a, S: AsStr>(alloc: Global, words: &'a [S]) -> Result<Words<'a>, WordsFault>
+/// Returns the request in the words after the program's name. `--version` prints `version` after the name.
+pub fn parse_words<'a, S: AsStr>(
+    alloc: Global,
+    words: &'a [S],
+    version: &'a str,
+) -> Result<Words<'a>, WordsFault>
     ensures found { IfOk result (AreWordsOf (map S.text words.entry.now)) }
     ensures refused { IfErr result (HasReason (AreNoWords (map S.text words.entry.now))) }
 {
-    let before = match first_matches(alloc, words, true) {
+    let before = match first_matches(alloc, words, version, true) {
         Ok(before) => before,
-        Err(error) => return Err(tell(alloc, &error, words)?),
+        Err(error) => return Err(tell(alloc, &error, words, version)?),
     };
     let rest = rest_of(&before, words);
     let Some(image) = before.get_str("image") else {
@@ -86,22 +90,23 @@ pub fn parse_words<'a, S: AsStr>(alloc: Global, words: &'a [S]) -> Result<Words<
     match (before.get_str("commands"), word) {
         (Some(file), None) => file_words(alloc, image, file, &before),
         (None, Some(word)) => match Verb::of_name(word.as_str()) {
-            Some(verb) => obeyed_words(alloc, image, verb, rest, Some(&before)),
+            Some(verb) => obeyed_words(alloc, image, verb, rest, version, Some(&before)),
             None => Err(before_image(alloc, image, word.as_str())?),
         },
         (None, None) => Err(wanting(alloc, false)?),
         (Some(_), Some(_)) => {
-            let text = "error: commands stand in FILE or behind IMAGE, not in both";
+            let text = "error: give the commands in FILE or after IMAGE, not both";
             Err(say_wrong(alloc, text)?)
         }
     }
 }
 
-/// What the words of a line in a file of commands for this image ask for; None where there is no word. The line has no word for the image.
+/// Returns the request in the words of a line in a file of commands for this image, or None without any word. The line has no word for the image.
 pub fn parse_line<'a, S: AsStr>(
     alloc: Global,
     image: &'a str,
     words: &'a [S],
+    version: &'a str,
 ) -> Result<Option<Words<'a>>, WordsFault>
     ensures found { IfOk result (IsLineOf image.entry (map S.text words.entry.now)) }
     ensures refused { IfErr result (HasReason (IsNoLine (map S.text words.entry.now))) }
@@ -109,12 +114,12 @@ pub fn parse_line<'a, S: AsStr>(
     if words.is_empty() {
         return Ok(None);
     }
-    let before = match first_matches(alloc, words, false) {
+    let before = match first_matches(alloc, words, version, false) {
         Ok(before) => before,
-        Err(error) => return Err(tell(alloc, &error, words)?),
+        Err(error) => return Err(tell(alloc, &error, words, version)?),
     };
     if before.get_str("commands").is_some() {
-        let text = "error: no command for a file of commands";
+        let text = "error: a file of commands cannot have -f";
         return Err(say_wrong(alloc, text)?);
     }
     let rest = rest_of(&before, words);
@@ -122,7 +127,7 @@ pub fn parse_line<'a, S: AsStr>(
         return Err(wanting(alloc, false)?);
     };
     match Verb::of_name(name.as_str()) {
-        Some(verb) => match obeyed_words(alloc, image, verb, rest, Some(&before)) {
+        Some(verb) => match obeyed_words(alloc, image, verb, rest, version, Some(&before)) {
             Ok(words) => Ok(Some(words)),
             Err(fault) => Err(fault),
         },
@@ -155,6 +160,7 @@ fn obeyed_words<'a, S: AsStr>(
     image: &'a str,
     verb: Verb,
     words: &'a [S],
+    version: &str,
     before: Option<&ArgMatches<'a>>,
 ) -> Result<Words<'a>, WordsFault>
     ensures found { IfOk result (AreOfCommand image.entry verb (map S.text (drop 1 words.entry.now)) before.entry) }
@@ -162,7 +168,7 @@ fn obeyed_words<'a, S: AsStr>(
 {
     let own = match command_matches(alloc, verb, behind_first(words)) {
         Ok(own) => own,
-        Err(error) => return Err(tell(alloc, &error, words)?),
+        Err(error) => return Err(tell(alloc, &error, words, version)?),
     };
     let said = Said {
         before,
@@ -192,7 +198,11 @@ fn found_words<'a>(
         force: said.flag(Choice::Force),
         json: said.flag(Choice::Json),
         quiet: said.flag(Choice::Quiet),
-        user: said_user(alloc, said.text(Choice::User), "is no user, as [1,2]")?,
+        user: said_user(
+            alloc,
+            said.text(Choice::User),
+            "is not a valid user, such as [1,2]",
+        )?,
         stamp: said_stamp(alloc, said)?,
         saving: how_saved(said, verb),
         blocks: number_of(alloc, said.text(Choice::Blocks))?,
@@ -300,7 +310,7 @@ fn said_stamp(alloc: Global, said: &Said<'_, '_, '_>) -> Result<Option<Stamp>, W
     };
     match Stamp::parse(text.as_bytes()) {
         Some(stamp) if is_true_day(&stamp) => Ok(Some(stamp)),
-        Some(_) => Err(wrong(alloc, text, "is no day and time that there is")?),
-        None => Err(wrong(alloc, text, "is no stamp, as 24NOV85093000")?),
+        Some(_) => Err(wrong(alloc, text, "is not a valid date and time")?),
+        None => Err(wrong(alloc, text, "is not a valid stamp, such as 24NOV85093000")?),
     }
 }

@@ -1,4 +1,4 @@
--- What the program puts into a volume.
+-- The file that the program puts into a volume.
 use Rattle.std.specs.Prelude.{◌≡◌, ℕ, List, None, length}
 use Rattle.ods_base.specs.declared.file_id.FileId.{FileId}
 use Rattle.ods_base.specs.declared.name.Pick.{Pick}

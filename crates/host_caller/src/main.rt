@@ -1,5 +1,5 @@
-//! A program over the libraries that changes an image of the host: it lists the master directory, puts a text into it, and saves the
-//! image whole or not at all.
+//! An example program over the libraries that changes an image of the host: it lists the master directory, puts a text into it, and saves the image
+//! whole or not at all.
 #![tactic(auto)]
 
 ghost use Rattle.std.specs.Prelude.{IfOk};
@@ -16,7 +16,7 @@ use ods_walk::listing;
 use std::alloc::Global;
 use std::env;
 
-/// Who makes the requests: a user of the system's group.
+/// The user of the requests, in the system's group.
 const USER: Uic = Uic {
     group: 1,
     member: 1,
@@ -64,7 +64,7 @@ fn list(rt: &(impl Print + AllocGlobal), volume: &Mounted) -> anyhow::Result<()>
     Ok(())
 }
 
-/// The volume with the text under this name. Refused, the volume is let go, and nothing is saved.
+/// Returns the volume with the text under this name. If refused, the volume is dropped, and nothing is saved.
 fn put(alloc: Global, volume: Mounted, name: &str, stamp: Stamp) -> anyhow::Result<Mounted>
     ensures { IfOk result (IsPut TEXT.now name.now stamp MASTER (record { image = volume.image; layout = volume.layout; user = USER })) }
 {

@@ -1,4 +1,4 @@
--- When a chain of headers goes on in new headers, and that it is then the longer chain.
+-- When a chain of headers continues with new headers, and the law that it is then the longer chain.
 use Rattle.std.specs.Prelude.{◌≡◌, ℕ, ◌+◌, ◌*◌, ◌<◌, ◌≤◌, IsTrue, List, ◌++◌, slice_index, length, take, drop}
 use Rattle.std.specs.List.{flat_map}
 use Rattle.ods_header.specs.declared.header.Run.{Run}
@@ -12,7 +12,7 @@ use Rattle.ods_alloc.specs.Extension.{first_number}
 abbrev pub IsLink : List (List ℕ) → VolumeLayout → ℕ → ℕ → Type 0
 IsLink I L m k = IsSegment I L.home L.index (last_number L) m k
 
--- header m of J has these pointers, and names the first of the headers behind it by number and sequence number, on this volume
+-- header m of J has these pointers, and links to the first of the next headers by number and sequence number, on this volume
 pub record LinksOn (J : List (List ℕ)) (L : VolumeLayout) (m k : ℕ) (runs : List Run) (behind : List ℕ) : Type 0 where
   pub link : IsLink J L m k
   pub pointers : runs_of (header_at J L m) ≡ runs
@@ -20,7 +20,8 @@ pub record LinksOn (J : List (List ℕ)) (L : VolumeLayout) (m k : ℕ) (runs : 
   pub volume : 0 < length behind → next_volume_of (header_at J L m) ≡ 0
   pub sequence : 0 < length behind → sequence_of (header_at J L (first_number behind)) ≡ next_sequence_of (header_at J L m)
 
--- J is I where the chain of n goes on: the headers before the last stay, the last has as many of the runs as have room behind its own pointers, and each of the new headers takes the next 102
+-- J is I in which the chain of n continues. The headers before the last are unchanged, the last has as many of the runs as it has room for after its
+-- own pointers, and each new header takes the next 102
 pub record GoesOn (I : List (List ℕ)) (L : VolumeLayout) (n : ℕ) (others numbers : List ℕ) (runs : List Run) (room : ℕ) (J : List (List ℕ)) : Type 0 where
   pub same : (m k : ℕ) → IsLink I L m k → k < length others → header_at J L m ≡ header_at I L m
   pub used : (m k : ℕ) → IsLink I L m k → IsTrue (is_in_use J L.home m)

@@ -1,4 +1,4 @@
--- Where a chain of headers ends, and what is asked of the ends of one that grows.
+-- The end of a chain of headers, and the conditions on the ends of a chain that grows.
 use Rattle.std.specs.Prelude.{◌≡◌, ◌≢◌, ℕ, ◌<◌, List, ◌∷◌, length}
 use Rattle.ods_header.specs.Header.{IsValidHeader, room_of}
 use Rattle.ods_space.specs.Layout.{VolumeLayout, header_at}
@@ -17,17 +17,18 @@ pub record IsEndOf (I : List (List ℕ)) (L : VolumeLayout) (n : ℕ) (end : Cha
   pub number : (others blocks : List ℕ) → IsChain I L n others blocks → end.number ≡ last_of n others
   pub last : end.last.now ≡ header_at I L end.number
 
--- the chain of file n has so many headers, maps so many blocks, and has this room in words behind the pointers of its last header
+-- the chain of file n has this number of headers, maps this number of blocks, and has this room in words after the pointers of its last header
 abbrev pub IsMeasured : List (List ℕ) → VolumeLayout → ℕ → ChainEnd → Type 0
 IsMeasured I L n end = (others blocks : List ℕ) → IsWhole I L n others blocks
     → (end.headers ≡ length (n ∷ others)) × (end.blocks ≡ length blocks) × (end.room ≡ room_of (header_at I L (last_of n others)))
 
--- whatever image has these headers: where n has a chain there, of 256 headers at most, it ends in this header
+-- in any image with these headers: if n has a chain there, of 256 headers at most, it ends in this header
 abbrev pub EndsWhereDrafted : List (List ℕ) → VolumeLayout → ℕ → ChainEnd → Type 0
 EndsWhereDrafted I L n end = (C : List (List ℕ)) (others blocks : List ℕ) → ((m : ℕ) → header_at C L m ≡ header_at I L m) → length others < 256 → IsChain C L n others blocks
     → (end.number ≡ last_of n others) × (end.last.now ≡ header_at I L end.number)
 
--- The chain of n with these headers behind its first begins with block b, and ends so. Where it has one header, that is its last too, whatever is said of the last.
+-- The chain of n with these headers after its first begins with block b, and has this end. If it has only one header, that is its last too, and the
+-- block of the end has no effect.
 pub record AreEnds (I : List (List ℕ)) (L : VolumeLayout) (n : ℕ) (others b : List ℕ) (end : ChainEnd) : Type 0 where
   pub first : b ≡ header_at I L n
   pub number : end.number ≡ last_of n others

@@ -1,4 +1,4 @@
--- How chains grow and shrink: runs, the headers that they need, and what changes in the image.
+-- How chains grow and shrink: runs, the headers that they need, and the changes in the image.
 use Rattle.std.specs.Prelude.{◌≡◌, ◌≢◌, ℕ, ◌+◌, ◌-◌, ◌*◌, ◌/◌, ◌%◌, ◌^◌, ◌<◌, ◌≤◌, ◌⊎◌, Bool, not, ◌&&◌, ◌||◌, ◌==◌, nat_lt, if◌then◌else◌, List, [], ◌∷◌, ◌++◌, length, drop, slice_get, slice_set, Some, IsTrue}
 use Rattle.std.specs.List.{All, Contains, flat_map, list_any}
 use Rattle.std.specs.List.Sorted.{IsStrictlyIncreasing}
@@ -17,7 +17,7 @@ use Rattle.ods_space.specs.Draft.{Changes, applied}
 use Rattle.ods_space.specs.declared.disk.Disk.{Disk}
 use Rattle.ods_space.specs.Free.{is_covered, storage_bit, is_free_number}
 
--- Blocks that ascend, cut into runs from the lowest upward: a run ends where the next block is not the next number, or where it has 256 blocks.
+-- Ascending blocks as runs from the lowest upward. A run ends if the next block is not contiguous, or if the run has 256 blocks.
 abbrev pub cut_from : Run → List ℕ → List Run
 cut_from run [] = run ∷ []
 cut_from run (x ∷ xs) =
@@ -29,7 +29,7 @@ unfoldable pub cut : List ℕ → List Run
 cut [] = []
 cut (x ∷ xs) = cut_from (record { lbn = x; count = 1 }) xs
 
--- how many extension headers this many pointers need where `room` of them still fit; each takes 102
+-- the number of extension headers that this number of pointers needs if `room` of them still fit; each takes 102
 abbrev pub headers_needed : ℕ → ℕ → ℕ
 headers_needed room runs = (runs - room + 101) / 102
 
@@ -54,30 +54,31 @@ with_in_use I h n = slice_set I (h.index_bitmap_lbn + (n - 1) / 4096) (with_bit 
 abbrev pub is_one_of : List ℕ → ℕ → Bool
 is_one_of xs x = list_any (λ y. y == x) xs
 
--- What headers and bitmaps stand on is apart: INDEXF.SYS maps the index bitmap and headers 1 to 16 from VBN 3 on, and no block of INDEXF.SYS or BITMAP.SYS stands twice.
+-- The blocks of headers and bitmaps are separate. INDEXF.SYS maps the index bitmap and headers 1 to 16 from VBN 3 on, and no block of INDEXF.SYS or
+-- BITMAP.SYS is mapped twice.
 pub record IsWellPlaced (L : VolumeLayout) : Type 0 where
   pub index_place : (i : ℕ) → i < L.home.index_bitmap_size + 16 → slice_get L.index (2 + i) ≡ Some (L.home.index_bitmap_lbn + i)
   pub index_once : (i j b : ℕ) → slice_get L.index i ≡ Some b → slice_get L.index j ≡ Some b → i ≡ j
   pub bitmap_once : (i j b : ℕ) → slice_get L.bitmap i ≡ Some b → slice_get L.bitmap j ≡ Some b → i ≡ j
   pub apart : (i j b c : ℕ) → slice_get L.index i ≡ Some b → slice_get L.bitmap j ≡ Some c → b ≢ c
 
--- the LBN is of the index bitmap
+-- the LBN belongs to the index bitmap
 abbrev pub IsIndexBitmap : VolumeLayout → ℕ → Type 0
 IsIndexBitmap L lbn = (L.home.index_bitmap_lbn ≤ lbn) × (lbn < L.home.index_bitmap_lbn + L.home.index_bitmap_size)
 
--- the LBN is of the storage bitmap, from VBN 2 of BITMAP.SYS on
+-- the LBN belongs to the storage bitmap, from VBN 2 of BITMAP.SYS on
 abbrev pub IsStorageBitmap : VolumeLayout → ℕ → Type 0
 IsStorageBitmap L lbn = Contains (drop 1 L.bitmap) lbn
 
--- the LBN has one of these headers
+-- one of these headers is at the LBN
 abbrev pub IsHeaderPlace : VolumeLayout → List ℕ → ℕ → Type 0
 IsHeaderPlace L numbers lbn = (n : ℕ) × Contains numbers n × (place_of L n ≡ Some lbn)
 
--- the LBN is of the bitmaps, or of one of these headers
+-- the LBN belongs to the bitmaps, or has one of these headers
 abbrev pub IsBookkeeping : VolumeLayout → List ℕ → ℕ → Type 0
 IsBookkeeping L numbers lbn = IsIndexBitmap L lbn ⊎ IsStorageBitmap L lbn ⊎ IsHeaderPlace L numbers lbn
 
--- The bits of both bitmaps, as far as they cover blocks and numbers: these blocks are taken, or given back, and these numbers are used, or free.
+-- The bits of both bitmaps, as far as they cover the blocks and numbers: these blocks are allocated, and these numbers are in use.
 pub record AllocatesBits (I : List (List ℕ)) (L : VolumeLayout) (blocks numbers : List ℕ) (J : List (List ℕ)) : Type 0 where
   pub storage : (lbn : ℕ) → IsTrue (is_covered L lbn) → storage_bit J L lbn ≡ (storage_bit I L lbn && not (is_one_of blocks lbn))
   pub index_bits : (n : ℕ) → is_in_use J L.home n ≡ (is_in_use I L.home n || is_one_of numbers n)
@@ -92,35 +93,35 @@ pub record ChangesOnly (I : List (List ℕ)) (L : VolumeLayout) (numbers : List 
   pub size : length J ≡ length I
   pub others : (lbn : ℕ) → ¬ IsBookkeeping L numbers lbn → block_at J lbn ≡ block_at I lbn
 
--- where the header names no next one, M.EFSQ is 0 too
+-- if the header has no next header, M.EFSQ is 0 too
 abbrev pub EndsClean : List ℕ → Type 0
 EndsClean b = next_number_of b ≡ 0 → next_sequence_of b ≡ 0
 
--- J is I with the chain of n, which was n and then `others` with the blocks `all`, grown by these blocks and these extension headers.
+-- J is I in which the chain of n, formerly n and then `others` with the blocks `all`, is grown by these blocks and these extension headers.
 pub record Extends (I : List (List ℕ)) (L : VolumeLayout) (n : ℕ) (others all blocks numbers : List ℕ) (J : List (List ℕ)) : Type 0 where
   pub chain : IsChain J L n (others ++ numbers) (all ++ blocks)
-  -- the old pointers stay, and the runs of the blocks follow
+  -- the old pointers remain, and the runs of the new blocks follow
   pub runs : chain_runs J L (n ∷ others ++ numbers) ≡ chain_runs I L (n ∷ others) ++ cut blocks
-  -- headers that were there stay what they were, each with its own pointers first, and new ones are made in one form
+  -- the old headers keep their fields, each with its own pointers first, and the new ones have one form
   pub stays : All (λ m. KeepsFields (header_at I L m) (header_at J L m)) (n ∷ others)
   pub begins : All (λ m. BeginsPointers (header_at I L m) (header_at J L m)) (n ∷ others)
   pub rest : All (λ m. KeepsRest (header_at I L m) (header_at J L m)) (n ∷ others)
   pub sizes : All (λ m. length (header_at J L m) ≡ length (header_at I L m)) (n ∷ others)
   pub made : All (λ m. IsExtensionOf (header_at J L n) (header_at J L m)) numbers
   pub clean : All (λ m. EndsClean (header_at J L m)) numbers
-  -- the old last header and each new one but the last are full
+  -- the old last header and each new one except the last are full
   pub filled : (i m : ℕ) → i < length numbers → slice_get (last_of n others ∷ numbers) i ≡ Some m → room_of (header_at J L m) / 2 ≡ 0
-  -- where no new one follows, the last header names the volume that it named
+  -- if no new header follows, the last header keeps the volume number of its next header
   pub last_volume : numbers ≡ [] → next_volume_of (header_at J L (last_of n others)) ≡ next_volume_of (header_at I L (last_of n others))
   pub sequences : All (λ m. sequence_of (header_at J L m) ≡ sequence_of (header_at I L m) + 1) numbers
   pub bits : AllocatesBits I L blocks (n ∷ numbers) J
   pub only : ChangesOnly I L (n ∷ others ++ numbers) J
 
--- n has the chain of these headers behind its first, and of these blocks, once its index bit is set
+-- n has the chain of these headers after its first, and of these blocks, once its index bit is set
 abbrev pub HasChainInUse : List (List ℕ) → VolumeLayout → ℕ → List ℕ × List ℕ → Type 0
 HasChainInUse I L n chain = IsChain (with_in_use I L.home n) L n chain.0 chain.1
 
--- what the second draft makes of a disk is what the first makes of it, with that chain of n grown by these blocks and these extension headers
+-- the disk after the second draft is the disk after the first, with the chain of n grown by these blocks and these extension headers
 abbrev pub ExtendsDrafted : Disk → Changes → ℕ → List ℕ × List ℕ → List ℕ → List ℕ → Changes → Type 0
 ExtendsDrafted D before n chain blocks numbers after =
     Extends (applied D.image.now before) D.layout.now n chain.0 chain.1 blocks numbers (applied D.image.now after)
@@ -131,7 +132,8 @@ pub record GivesBack (I : List (List ℕ)) (L : VolumeLayout) (blocks numbers : 
   pub bits : GivesBits I L blocks numbers J
   pub only : ChangesOnly I L numbers J
 
--- What extend_chain asks of its caller: the file is none that lays out the volume; the blocks ascend, and none holds headers or bitmaps; the numbers are free, each once, not n, and just as many as the runs need behind the room of the last header.
+-- The conditions of extend_chain for its caller. The file is neither INDEXF.SYS nor BITMAP.SYS. The blocks ascend, and none holds headers or bitmaps.
+-- The numbers are free, ascending, and not n. There are exactly as many as the runs need past the room of the last header.
 pub record CanExtend (I : List (List ℕ)) (L : VolumeLayout) (n : ℕ) (others blocks numbers : List ℕ) : Type 0 where
   pub file : 3 ≤ n
   pub ascending : IsStrictlyIncreasing blocks

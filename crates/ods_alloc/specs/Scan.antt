@@ -1,4 +1,4 @@
--- How bitmaps are scanned: by words of 64 bits, from a number to the least one that passes a test.
+-- The scan of bitmaps, by words of 64 bits: from a number to the least one that passes a test.
 use Rattle.std.specs.Prelude.{◌≡◌, ℕ, ◌+◌, ◌<◌, ◌≤◌, Bool, true, false, not, List, [], ◌∷◌}
 use Rattle.ods_header.specs.declared.home.Home.{Home}
 use Rattle.ods_space.specs.Layout.{is_in_use}
@@ -22,7 +22,7 @@ is_clear I h n = not (is_in_use I h n)
 abbrev pub NoneIsNext : (ℕ → Bool) → ℕ → Type 0
 NoneIsNext test a = (k : ℕ) → a ≤ k → test k ≡ false
 
--- where a scan goes on that has found these: behind the last of them, or at 0
+-- the number at which a scan continues after these are found: after the last of them, or 0
 abbrev pub start_behind : List ℕ → ℕ
 start_behind [] = 0
 start_behind (x ∷ xs) = last_of x xs + 1

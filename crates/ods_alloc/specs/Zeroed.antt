@@ -1,4 +1,4 @@
--- Blocks that become zeros, and blocks that are appended to a chain whose last header has room for their pointers.
+-- Blocks that are set to zeros, and blocks that are appended to a chain whose last header has room for their pointers.
 use Rattle.std.specs.Prelude.{◌≡◌, ℕ, ◌<◌, List, [], ◌∷◌, length}
 use Rattle.std.specs.List.{All, Contains}
 use Rattle.ods_base.specs.Block.{zeros}
@@ -13,7 +13,8 @@ pub record IsZeroed (I : List (List ℕ)) (blocks : List ℕ) (J : List (List �
   pub zero : (x : ℕ) → Contains blocks x → x < length I → block_at J x ≡ zeros
   pub elsewhere : (x : ℕ) → ¬ Contains blocks x → block_at J x ≡ block_at I x
 
--- K is I with these blocks behind those of a file whose last header is header `end`: they are zeros and marked as taken, that header has pointers to them behind its own, and no other block changes
+-- K is I with these blocks appended to a file whose last header is header `end`: they are zeros and marked as used, that header has pointers to them
+-- after its own, and no other block changes
 pub record AppendsBlocks (I : List (List ℕ)) (L : VolumeLayout) (end : ℕ) (blocks : List ℕ) (K : List (List ℕ)) : Type 0 where
   pub size : length K ≡ length I
   pub zeroed : All (λ lbn. block_at K lbn ≡ zeros) blocks

@@ -1,4 +1,4 @@
-//! The bits of both bitmaps, set and cleared in a draft. Each bitmap finds the bit of what it covers; they share the rest.
+//! The bits of both bitmaps, set and cleared in a draft. Each bitmap locates the bit of the block or number that it covers. They share the rest.
 ghost use Rattle.std.specs.Prelude.{◌≡◌, ◌^◌, ◌<◌, ◌≤◌, length, IfSome, IsTrue, OnOk};
 ghost use Rattle.ods_space.specs.{Draft.applied, Free.is_covered};
 ghost use Rattle.ods_alloc.specs.Marks.{HasPlaces, Puts, IsBitOf, IsIndexed, MarksBlocks, MarksNumbers, block_bit as block_bit_of, number_bit as number_bit_of};
@@ -52,7 +52,7 @@ fn number_bit(layout: &Layout, number: u16) -> Option<(u32, u32)>
     Some((home.index_bitmap_lbn + i / 4096, i % 4096))
 }
 
-/// Marks blocks as free or as taken, as far as the storage bitmap covers them.
+/// Marks blocks as free or as used, as far as the storage bitmap covers them.
 pub fn mark_blocks(
     disk: &Disk<'_>,
     blocks: &[u32],

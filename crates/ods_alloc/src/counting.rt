@@ -1,4 +1,4 @@
-//! The blocks of the bitmaps counted, one by one: all of them, or those that a draft changes.
+//! Counting the blocks of the bitmaps one by one: all blocks, or the blocks that a draft changes.
 ghost use Rattle.std.specs.Prelude.{◌≡◌, ◌+◌, ◌-◌, ◌<◌, ◌≤◌, ◌^◌, ◌*◌, length, slice_range, true, IfOk};
 ghost use Rattle.std.specs.List.{sum};
 ghost use Rattle.ods_base.specs.Image.{block_at};

@@ -1,11 +1,11 @@
-//! Counts of free blocks and of clear index bits, one for each block of the bitmaps. A volume keeps them beside its
-//! image, so that a search skips each block of a bitmap that has nothing left.
+//! Counts of free blocks and of clear index bits, one for each block of the bitmaps. A volume keeps them next to its image, so that a search skips
+//! each bitmap block without free ones.
 use crate::counting::{Bitmap, count_blocks, count_numbers, next_changed, recount, size_of};
 use ods_space::{Disk, Draft};
 use std::alloc::{AllocError, Global};
 use std::marker::Model;
 
-/// How many free blocks each block of the storage bitmap covers, and how many bits of each block of the index bitmap are clear.
+/// The number of free blocks that each block of the storage bitmap covers, and the number of clear bits in each block of the index bitmap.
 #[derive(Drop)]
 pub struct FreeCounts {
     blocks: Vec<u32>,
@@ -31,7 +31,7 @@ impl FreeCounts {
     ghost use Rattle.ods_alloc.specs.Counts.{counts_of, AreCountsAfter};
     ghost use Rattle.ods_space.specs.Disks.{on, seen};
 
-    /// The counts of an image, made anew.
+    /// Computes the counts of an image.
     pub fn of(alloc: Global, disk: &Disk<'_>) -> Result<FreeCounts, AllocError>
         requires { on IsLayoutOf disk.now }
         ensures { IfOk result (λ counts. counts ≡ seen counts_of disk.now) }
@@ -41,8 +41,7 @@ impl FreeCounts {
         Ok(FreeCounts { blocks, numbers })
     }
 
-    /// The counts once a draft is applied; none where it changes no block of either bitmap. Only the blocks that it changes are
-    /// counted anew.
+    /// Returns the counts after a draft is applied, or `None` if it changes no block of either bitmap. Only the changed blocks are counted again.
     pub fn after(&self, disk: &Disk<'_>, draft: &Draft) -> Result<Option<FreeCounts>, AllocError>
         requires layout { on IsLayoutOf disk.now }
         requires counts { self.now ≡ seen counts_of disk.now }
@@ -64,7 +63,7 @@ impl FreeCounts {
         Ok(Some(FreeCounts { blocks, numbers }))
     }
 
-    /// How many blocks are free in all.
+    /// Returns the total number of free blocks.
     pub fn total(&self) -> u32
         ensures { (I : List (List ℕ)) (L : VolumeLayout) → IsLayoutOf I L → self.now ≡ counts_of I L → result ≡ length (free_blocks I L) }
     {
@@ -75,7 +74,7 @@ impl FreeCounts {
         total
     }
 
-    /// How many free blocks each block of the storage bitmap covers.
+    /// Returns the number of free blocks that each block of the storage bitmap covers.
     pub fn as_slice(&self) -> &[u32]
         ensures { result.now ≡ self.now.blocks }
     {

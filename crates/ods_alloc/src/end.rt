@@ -1,4 +1,4 @@
-//! Where a chain of headers ends: by a walk along a whole chain, or along one as a draft has it.
+//! The end of a chain of headers, found by a walk along a whole chain, or along a chain as a draft has it.
 ghost use Rattle.std.specs.Prelude.{◌≡◌, ◌≤◌, ℕ, List, length, IfSome, IfNone};
 ghost use Rattle.ods_header.specs.Header.{IsValidHeader};
 ghost use Rattle.ods_space.specs.{Chain.chain_blocks, Files.IsLayoutOf, Files.IsWhole};
@@ -9,30 +9,28 @@ use ods_base::Block;
 use ods_header::{is_valid_header, next_number, pointer_sum, room_words};
 use ods_space::{ChainHeaders, Disk, Draft};
 
-/// The most headers that a chain may have: a segment number is a byte.
+/// The most headers of a chain: a segment number is a byte.
 pub const CHAIN_HEADERS: u32 = 256;
 
-/// Where the chain of a file ends: how many headers it has, how many blocks they map, and the last of them, with its number
-/// and its room in words for pointers.
+/// The end of a file's chain: the number of its headers, the number of blocks that they map, and the last header with its number and its room.
 #[derive(Clone, Copy)]
 pub struct ChainEnd<'a> {
-    /// How many headers the chain has.
+    /// The number of headers of the chain.
     pub headers: u32,
-    /// How many blocks they map.
+    /// The number of blocks that the headers map.
     pub blocks: u32,
     /// The number of the last header.
     pub number: u16,
     /// The block of the last header.
     pub last: &'a Block,
-    /// The room in words behind its pointers; a pointer takes two.
+    /// The free room after its pointers in words. A pointer takes two words.
     pub room: u32,
 }
 
 impl<'a> ChainEnd<'a> {
     ghost use Rattle.ods_space.specs.Disks.{header_on, on};
 
-    /// Where the chain of a file ends, by one walk along it. `first` is its first header. A chain has at most 256
-    /// headers.
+    /// Finds the end of a file's chain by one walk along it. `first` is its first header. A chain has at most 256 headers.
     pub fn of(disk: &Disk<'a>, number: u16, first: &'a Block) -> Self
         requires layout { on IsLayoutOf disk.now }
         requires whole { (others : List ℕ) × (blocks : List ℕ) × on IsWhole disk.now number others blocks }

@@ -1,4 +1,4 @@
-//! Chains that grow: a file gets blocks, and headers where its own have no room for their pointers, all in a draft.
+//! Growing chains. A file receives blocks, and headers if its own have no room for their pointers, all in a draft.
 ghost use Rattle.std.specs.Prelude.{◌≡◌, ◌≢◌, List, ℕ, IfOk, OnOk, OnErr};
 ghost use Rattle.ods_space.specs.Files.{IsLayoutOf};
 ghost use Rattle.ods_alloc.specs.Ends.{AreEnds};
@@ -15,9 +15,9 @@ use ods_header::Run;
 use ods_space::{Disk, Draft};
 use std::alloc::{AllocError, Global};
 
-/// Appends blocks to the chain of a file, whose first header is written but may not be in use yet, with these
-/// extension headers, in a draft; the bits of all of them say that they are in use. After an `Err` the draft is as
-/// it was. The appended blocks keep their bytes. Each new header gets the sequence number that its block had, plus one.
+/// Appends blocks to the chain of a file in a draft, with these extension headers. The first header is already written but may not be in use yet. The
+/// bits of all of them are marked as used. Each new header has the old sequence number of its block, plus one. The appended blocks keep their bytes.
+/// After an `Err` the draft is unchanged.
 pub fn extend_chain(
     alloc: Global,
     disk: &Disk<'_>,
@@ -45,10 +45,9 @@ pub fn extend_chain(
     Ok(())
 }
 
-/// Appends blocks, whose runs these are, to the chain of a file that ends so, with these extension headers, in a draft; the bits
-/// of all of them say that they are in use. The first header, as the draft has it, is written but may not be in use yet; of the
-/// others that are there none is read but the last, which the caller has. It is handed the draft, and hands it back unless there
-/// is no memory. The appended blocks keep their bytes.
+/// Appends blocks, which these runs describe, to the chain of a file with this end, in a draft and with these extension headers. The first header is
+/// written in the draft but may not be in use yet. Of the other existing headers only the last is used, and the caller supplies it. The bits of all
+/// of them are marked as used, and the appended blocks keep their bytes. It takes the draft and returns it, unless it runs out of memory.
 pub fn extend_from(
     disk: &Disk<'_>,
     number: u16,

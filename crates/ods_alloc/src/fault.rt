@@ -6,17 +6,17 @@ use ods_base::{Coded, Row};
 use std::alloc::AllocFailed;
 use thiserror::Error;
 
-/// Why there is no room for blocks or headers.
+/// The reason why there is no room for blocks or headers.
 #[derive(Clone, Copy, Debug, PartialEq, Eq, Error)]
 #[error("{}", self.name())]
 pub enum SpaceFault {
-    /// Fewer blocks are free than are wanted.
+    /// Fewer blocks are free than the request needs.
     VolumeFull,
-    /// Fewer file numbers are free than are wanted.
+    /// Fewer file numbers are free than the request needs.
     HeadersFull,
     /// The chain would have more than 256 headers.
     ChainFull,
-    /// Memory was refused.
+    /// The allocator refused memory.
     NoMemory,
 }
 

@@ -1,4 +1,4 @@
-//! Free blocks: how many there are, and the lowest of them, picked for a file that grows. A stretch of 64 is one step.
+//! Free blocks: their number, and the lowest of them, picked for a file that grows. A stretch of 64 is one step.
 ghost use Rattle.std.specs.Prelude.{◌≡◌, ◌+◌, ◌^◌, ◌<◌, ◌≤◌, length, drop, take, IfOk, IfErr, IfSome, IfNone};
 ghost use Rattle.ods_space.specs.{Files.IsLayoutOf, Free.is_free_block, Free.free_blocks};
 ghost use Rattle.ods_alloc.specs.{Extend.last_of, Scan.IsNext, Scan.NoneIsNext, Scan.start_behind, Faults.IsShort, Counts.ShowsNone, Counts.free_in, Counts.counts_of};
@@ -9,7 +9,7 @@ use crate::{FreeCounts, SpaceFault};
 use ods_space::Disk;
 use std::alloc::Global;
 
-/// The number of free blocks.
+/// Returns the number of free blocks.
 pub fn free_count(disk: &Disk<'_>) -> u32
     requires { on IsLayoutOf disk.now }
     ensures { result ≡ length (seen free_blocks disk.now) }
@@ -54,7 +54,7 @@ fn start_behind(blocks: &[u32]) -> u32
     blocks[count - 1] + 1
 }
 
-/// The lowest free blocks, ascending. The refusal is VolumeFull where fewer blocks are free, and otherwise NoMemory.
+/// Picks the `count` lowest free blocks, ascending. The fault is `VolumeFull` if fewer blocks are free, and otherwise `NoMemory`.
 pub fn pick_blocks(
     alloc: Global,
     disk: &Disk<'_>,
@@ -69,8 +69,8 @@ pub fn pick_blocks(
     pick_blocks_behind(alloc, disk, counts, &[], count)
 }
 
-/// The lowest free blocks behind these, which are the lowest themselves, ascending. The search goes on behind the last of them. The
-/// refusal is VolumeFull where fewer blocks are free, and otherwise NoMemory.
+/// Picks the `count` lowest free blocks after `lowest`, ascending. The blocks in `lowest` are the lowest free ones, and the search continues after
+/// the last of them. The fault is `VolumeFull` if fewer blocks are free, and otherwise `NoMemory`.
 pub fn pick_blocks_behind(
     alloc: Global,
     disk: &Disk<'_>,

@@ -9,9 +9,8 @@ use ods_header::deleted_header;
 use ods_space::{Disk, Draft};
 use std::alloc::AllocError;
 
-/// Gives blocks back and deletes headers, in a draft: a deleted header keeps its bytes but for its number, which
-/// becomes 0, and its sum; the bits of the blocks and of the numbers say that they are free. After an `Err` the
-/// draft is as it was. No other block changes.
+/// Gives blocks back and deletes headers, in a draft. Only the number of a deleted header, which becomes 0, and its checksum change. The bits of the
+/// blocks and of the numbers are marked as free. No other block changes. After an `Err` the draft is unchanged.
 pub fn give_back(
     disk: &Disk<'_>,
     blocks: &[u32],
@@ -29,8 +28,8 @@ pub fn give_back(
     Ok(())
 }
 
-/// Marks blocks and numbers as free in both bitmaps, as far as these cover them, in a draft; nothing else changes.
-/// It is handed the draft, and hands it back unless there is no memory.
+/// Marks blocks and numbers as free in both bitmaps, as far as these cover them, in a draft. Nothing else changes. It takes the draft and returns it,
+/// unless it runs out of memory.
 pub fn mark_free(
     disk: &Disk<'_>,
     blocks: &[u32],

@@ -1,4 +1,4 @@
-//! The headers of a chain that grows: the last one that it has, and those behind it.
+//! The headers of a chain that grows: its last header, and the new headers after it.
 ghost use Rattle.std.specs.Prelude.{◌+◌, ◌≤◌, length, OnOk};
 ghost use Rattle.std.specs.List.{All, Contains};
 ghost use Rattle.std.specs.List.Sorted.{IsStrictlyIncreasing};

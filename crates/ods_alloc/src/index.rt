@@ -1,4 +1,4 @@
-//! INDEXF.SYS grows: it gets blocks, and its last header the pointers to them, in a draft of their own.
+//! INDEXF.SYS grows: it receives blocks, and its last header receives the pointers to them, in a draft of their own.
 ghost use Rattle.std.specs.Prelude.{◌≡◌, ◌<◌, ◌≤◌, ◌/◌, ℕ, length, IfOk};
 ghost use Rattle.std.specs.List.{All, Contains};
 ghost use Rattle.ods_base.specs.Image.{IsImage};
@@ -14,8 +14,8 @@ use ods_header::{Run, append_runs};
 use ods_space::{Disk, Draft};
 use std::alloc::{AllocError, Global};
 
-/// The draft by which INDEXF.SYS gets these blocks, whose runs these are, behind its own: they become zeros and are marked as taken, and
-/// its last header, which is this one, gets pointers to them. No other block changes. The refusal is for want of memory alone.
+/// Makes the draft that appends these blocks to INDEXF.SYS. They become zeros and are marked as used, and the last header `last` receives the
+/// pointers in `runs`. No other block changes. The only error is out of memory.
 pub fn grow_index(
     alloc: Global,
     disk: &Disk<'_>,

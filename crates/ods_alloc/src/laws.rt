@@ -1,8 +1,8 @@
-//! Laws over the definitions alone: each stands on a function with no body.
+//! Laws about definitions. Each law is a function with an empty body.
 ghost use Rattle.ods_alloc.specs.Chains.{ChainGrows};
 
-/// A chain whose last header is replaced by one that has more pointers and links on to new headers is the longer
-/// chain: it goes on with these headers, and names the blocks of the new pointers behind its own.
+/// A longer chain results if the last header of a chain receives more pointers and links to new headers. It continues with these headers, and maps
+/// the blocks of the new pointers after its own.
 pub fn chain_grows()
     ensures { ChainGrows }
 {}

@@ -1,5 +1,5 @@
-//! Allocation by the two bitmaps: counts and picks of free blocks and numbers, the growth of chains by pointers and
-//! extension headers, and the marks of what a file takes or gives back.
+//! Allocation by the two bitmaps: counts and picks of free blocks and numbers, and the growth of chains by pointers and extension headers. It also
+//! marks what a file allocates or gives back.
 #![tactic(auto)]
 
 mod bitmap;

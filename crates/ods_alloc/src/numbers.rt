@@ -1,4 +1,4 @@
-//! Free file numbers: tested, counted and picked for new headers. Numbers in use are passed over 64 at a time.
+//! Free file numbers: tested, counted and picked for new headers. Used numbers are skipped 64 at a time.
 ghost use Rattle.std.specs.Prelude.{◌≡◌, ◌≤◌, true, length, take, IfOk, IfErr, IfSome, IfNone};
 ghost use Rattle.std.specs.List.{filter, range_with_len};
 ghost use Rattle.ods_space.specs.{Files.FindsFiles, Free.is_free_number, Free.free_numbers, Free.is_open_number, Free.open_numbers, Layout.greatest_number as greatest_of};
@@ -12,7 +12,7 @@ use ods_header::Home;
 use ods_space::{Disk, Layout, in_use, last_number, sequence};
 use std::alloc::Global;
 
-/// Whether a number may be given to a new header.
+/// Returns whether a new header may have this number.
 pub fn is_number_free(disk: &Disk<'_>, number: u16) -> bool
     requires { on FindsFiles disk.now }
     ensures { result ≡ seen is_free_number disk.now number }
@@ -31,7 +31,7 @@ fn is_number_open(disk: &Disk<'_>, most: u16, number: u16) -> bool
     !in_use(disk, number) && sequence(disk, number) < 65535
 }
 
-/// The number of free numbers.
+/// Returns the number of free file numbers.
 pub fn number_count(disk: &Disk<'_>) -> u32
     requires { on FindsFiles disk.now }
     ensures { result ≡ length (seen free_numbers disk.now) }
@@ -89,7 +89,7 @@ fn skip_used(image: &Image, home: &Home, counts: &[u32], from: u32, last: u32) -
     at
 }
 
-/// The lowest free numbers, ascending. The refusal is HeadersFull where fewer numbers are free, and otherwise NoMemory.
+/// Picks the `count` lowest free file numbers, ascending. The fault is `HeadersFull` if fewer numbers are free, and otherwise `NoMemory`.
 pub fn pick_numbers(
     alloc: Global,
     disk: &Disk<'_>,
@@ -104,8 +104,8 @@ pub fn pick_numbers(
     pick_up_to(alloc, disk, counts, last_number(disk.layout), count)
 }
 
-/// The lowest numbers that new headers may get where INDEXF.SYS may grow, ascending: free ones, and then such for which it has
-/// no block yet. The refusal is HeadersFull where there are fewer such numbers, and otherwise NoMemory.
+/// Picks the `count` lowest numbers for new headers, ascending: free numbers, and then numbers for which INDEXF.SYS has no block yet, so that it has
+/// to grow. The fault is `HeadersFull` if there are fewer such numbers, and otherwise `NoMemory`.
 pub fn pick_open_numbers(
     alloc: Global,
     disk: &Disk<'_>,
@@ -120,7 +120,7 @@ pub fn pick_open_numbers(
     pick_up_to(alloc, disk, counts, greatest_number(disk.layout), count)
 }
 
-/// The greatest number for which INDEXF.SYS may ever have a header.
+/// Returns the greatest number for which INDEXF.SYS can ever have a header.
 pub fn greatest_number(layout: &Layout) -> u16
     ensures { result ≡ greatest_of layout.now.home }
 {

@@ -1,4 +1,4 @@
-//! Blocks cut into runs, as retrieval pointers say them.
+//! Blocks as runs, as retrieval pointers store them.
 ghost use Rattle.std.specs.Prelude.{◌≡◌, ◌<◌, ◌^◌, IfOk};
 ghost use Rattle.std.specs.List.{All, flat_map};
 ghost use Rattle.ods_header.specs.Header.{IsRun, run_blocks};
@@ -7,7 +7,7 @@ ghost use Rattle.ods_alloc.specs.Extend.{cut};
 use ods_header::Run;
 use std::alloc::{AllocError, Global};
 
-/// Blocks as the runs that pointers can say, in the order of the blocks: each run is as long as it can be.
+/// Returns blocks as runs that pointers can store, in the order of the blocks. Each run is as long as possible.
 pub fn runs_of_blocks(alloc: Global, blocks: &[u32]) -> Result<Vec<Run>, AllocError>
     ensures cut { IfOk result (λ runs. runs.items ≡ cut blocks.now) }
     ensures blocks { IfOk result (λ runs. flat_map run_blocks runs.items ≡ blocks.now) }

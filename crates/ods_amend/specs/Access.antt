@@ -1,4 +1,4 @@
--- Another owner, another protection or other characteristics of a file: who may give them, what that makes of the catalogue, and of the blocks.
+-- Another owner, another protection or other characteristics of a file: who may set them, and the catalogue and the blocks afterwards.
 use Rattle.std.specs.Prelude.{◌≡◌, ◌≢◌, ℕ, ◌<◌, ◌≤◌, ◌⊎◌, Bool, not, ◌||◌, List, [], ◌∷◌, length, MatchOption, Option, Some, None, unwrap_or}
 use Rattle.std.specs.FinMap as map
 use Rattle.ods_base.specs.Block.{byte, word, sum_of}
@@ -23,23 +23,24 @@ use Rattle.ods_look.specs.Opening.{IsFileId, Rows}
 abbrev pub may_give : Uic → Uic → Bool
 may_give who owner = is_in_class System who owner || is_in_class Owner who owner
 
--- what is asked of the file and of the user: the file is none of the system's, and the user may
+-- the requirements for the file and the user: the file is not a system file, and the user may set them
 abbrev pub access_checks : Uic → FileId → Rows
 access_checks who id f = (is_reserved id, refusal.Reserved) ∷ (not (may_give who f.owner), refusal.Denied) ∷ []
 
--- why it is refused, by the catalogue: there is no such file, or the first check that does not hold
+-- why it is refused, by the catalogue: there is no such file, or the first check that fails
 abbrev pub access_fault : Catalogue → Uic → FileId → Option Refusal
 access_fault C who id = on_file (map.get C.files id) (access_checks who id)
 
--- the file with another owner, another protection and other characteristics of the user's, where these are given; all else of it stays
+-- the file with this owner, this protection and these user characteristics, each if given; all else of it is unchanged
 abbrev pub with_access : File → Option Uic → Option ℕ → Option ℕ → File
 with_access f owner protection flags = record f { owner = unwrap_or owner f.owner; protection = unwrap_or protection f.protection; user_char = unwrap_or flags f.user_char }
 
--- the catalogue with that file in the place of the one that it had under this ID; its past stays
+-- the catalogue with that file in place of the file under this ID; its past is unchanged
 abbrev pub put_access : Catalogue → FileId → Option Uic → Option ℕ → Option ℕ → Catalogue
 put_access C id owner protection flags = put C id (with_access (file_at C id) owner protection flags)
 
--- c is the header block b with this owner in bytes 8 and 9, this protection in bytes 10 and 11 and these characteristics in byte 12, where they are given, and its sum made anew; every other byte stays
+-- c is the header block b with this owner in bytes 8 and 9, this protection in bytes 10 and 11 and these characteristics in byte 12, each if given,
+-- and with a new checksum; every other byte is unchanged
 pub record IsWithAccess (b : List ℕ) (user : Option Uic) (word_given flags_given : Option ℕ) (c : List ℕ) : Type 0 where
   pub size : length c ≡ length b
   pub owner : owner_of c ≡ unwrap_or user (owner_of b)
@@ -48,31 +49,31 @@ pub record IsWithAccess (b : List ℕ) (user : Option Uic) (word_given flags_giv
   pub checksum : word c 255 ≡ sum_of c 255
   pub others : (i : ℕ) → (i < 8) ⊎ ((13 ≤ i) × (i < 510)) → byte c i ≡ byte b i
 
--- the blocks J are the blocks I where the user gave file `id` this owner, this protection and these characteristics, each where it is given
+-- the blocks J are the blocks I after the user gave file `id` this owner, this protection and these characteristics, each if given
 pub record IsGiven (I : List (List ℕ)) (L : VolumeLayout) (who : Uic) (id : FileId) (owner : Option Uic) (protection flags : Option ℕ) (J : List (List ℕ)) : Type 0 where
-  -- it was not to be refused
+  -- it is not refused
   pub allowed : (C : Catalogue) → ShowsBy I L C → access_fault C who id ≡ None
   -- the image is sound, and shows the catalogue with that file
   pub sound : IsSoundBy J L
   pub shown : (C : Catalogue) → ShowsBy I L C → ShowsBy J L (put_access C id owner protection flags)
-  -- no ID of the past can be given again
+  -- no past ID can be assigned again
   pub past : (C : Catalogue) → PastIsSpent I L C → PastIsSpent J L C
-  -- what files hold and what is free stays
+  -- the blocks of files and the free blocks and numbers are unchanged
   pub moves : NothingMoves (record { image = I; layout = L }) (record { image = J; layout = L })
-  -- the file's first header block changes so, and no other block
+  -- the file's first header block changes like this, and no other block
   pub long : length J ≡ length I
   pub header : IsWithAccess (header_at I L id.number) owner protection flags (header_at J L id.number)
   pub elsewhere : (x : ℕ) → place_of L id.number ≢ Some x → block_at J x ≡ block_at I x
 
--- the volume E is the volume D where the user gave the file these; the layout stays
+-- the volume E is the volume D after the user gave the file these; the layout is unchanged
 abbrev pub GivesAll : Disk → Uic → FileId → Option Uic → Option ℕ → Option ℕ → Disk → Type 0
 GivesAll D who id owner protection flags E = IsGiven D.image D.layout who id owner protection flags E.image × (E.layout ≡ D.layout)
 
--- and its characteristics stay
+-- and its characteristics are unchanged
 abbrev pub Gives : Disk → Uic → FileId → Option Uic → Option ℕ → Disk → Type 0
 Gives D who id owner protection E = GivesAll D who id owner protection None E
 
--- the file is there, it is none of the system's, and no check refuses
+-- the file exists, it is not a system file, and no check refuses
 pub record MayBeGiven (I : List (List ℕ)) (L : VolumeLayout) (who : Uic) (id : FileId) : Type 0 where
   pub file : IsFileId I L id
   pub number : 5 < id.number
@@ -82,6 +83,6 @@ pub record MayBeGiven (I : List (List ℕ)) (L : VolumeLayout) (who : Uic) (id :
 abbrev pub IsAccessFault : List (List ℕ) → VolumeLayout → Uic → FileId → Refusal → Type 0
 IsAccessFault I L who id f = (C : Catalogue) → ShowsBy I L C → access_fault C who id ≡ Some f
 
--- why it is refused: its first fault, or, where it has none, want of memory
+-- why it is refused: its first fault or, if it has none, out of memory
 abbrev pub IsNotGiven : List (List ℕ) → VolumeLayout → Uic → FileId → Refusal → Type 0
 IsNotGiven I L who id f = (C : Catalogue) → ShowsBy I L C → MatchOption (access_fault C who id) (f ≡ refusal.NoMemory) (λ g. f ≡ g)

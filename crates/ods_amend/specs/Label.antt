@@ -1,4 +1,4 @@
--- Another label of a volume: what it makes of the home block, and that all else of the volume stays.
+-- Another label of a volume: the home block afterwards, and that all else of the volume is unchanged.
 use Rattle.std.specs.Prelude.{◌≡◌, ℕ, ◌<◌, ◌≤◌, ◌⊎◌, List, length, slice_range}
 use Rattle.ods_base.specs.Block.{byte, word, sum_of}
 use Rattle.ods_base.specs.Image.{block_at}
@@ -11,8 +11,8 @@ use Rattle.ods_state.specs.Moves.{NothingMoves}
 use Rattle.ods_state.specs.Version.{PastIsSpent}
 use Rattle.ods_init.specs.Label.{zero_padded}
 
--- c is the home block b with this label: H.VNAM, bytes 14 to 25, with zero bytes behind the label, and its copy in bytes 472 to 483, with spaces; H.CHK1 and H.CHK2
--- are the sums of the words before them, and every other byte stays
+-- c is the home block b with this label: H.VNAM, bytes 14 to 25, padded with zero bytes, and its copy in bytes 472 to 483, padded with spaces. H.CHK1
+-- and H.CHK2 are the checksums of the words before them, and every other byte is unchanged.
 pub record IsRelabelled (b label c : List ℕ) : Type 0 where
   pub size : length c ≡ length b
   pub name : slice_range c 14 26 ≡ zero_padded label
@@ -23,18 +23,18 @@ pub record IsRelabelled (b label c : List ℕ) : Type 0 where
 
 -- the blocks J are the blocks I with this label in the home block
 pub record IsLabelled (I : List (List ℕ)) (L : VolumeLayout) (label : List ℕ) (J : List (List ℕ)) : Type 0 where
-  -- the home block stands where it stood, and changes so; no other block changes
+  -- the home block keeps its LBN, and changes like this; no other block changes
   pub home : (lbn : ℕ) × IsHomeAt I lbn × IsHomeAt J lbn × IsRelabelled (block_at I lbn) label (block_at J lbn)
   pub long : length J ≡ length I
   pub elsewhere : (x : ℕ) → ¬ IsHomeAt I x → block_at J x ≡ block_at I x
-  -- the image is sound, and shows the catalogue that it showed
+  -- the image is sound, and shows the same catalogue
   pub sound : IsSoundBy J L
   pub shown : (C : Catalogue) → ShowsBy I L C → ShowsBy J L C
-  -- no ID of the past can be given again
+  -- no past ID can be assigned again
   pub past : (C : Catalogue) → PastIsSpent I L C → PastIsSpent J L C
-  -- what files hold and what is free stays
+  -- the blocks of files and the free blocks and numbers are unchanged
   pub moves : NothingMoves (record { image = I; layout = L }) (record { image = J; layout = L })
 
--- the volume E is the volume D with this label; the layout stays
+-- the volume E is the volume D with this label; the layout is unchanged
 abbrev pub Relabels : Disk → List ℕ → Disk → Type 0
 Relabels D label E = IsLabelled D.image D.layout label E.image × (E.layout ≡ D.layout)

@@ -1,4 +1,4 @@
--- Runs of free blocks, which stand one behind another on the disk.
+-- Runs of free blocks, which are consecutive on the disk.
 use Rattle.std.specs.Prelude.{◌≡◌, ℕ, ◌+◌, ◌<◌, ◌≤◌, true, List}
 use Rattle.std.specs.List.{filter, range_with_len}
 use Rattle.ods_space.specs.Free.{is_free_block}
@@ -13,7 +13,7 @@ pub record IsLowestRun (I : List (List ℕ)) (L : VolumeLayout) (n lbn : ℕ) : 
   pub free : IsFreeRun I L lbn n
   pub least : (k : ℕ) → k < lbn → ¬ IsFreeRun I L k n
 
--- no n blocks one behind another are free
+-- no n consecutive blocks are free
 abbrev pub HasNoRun : List (List ℕ) → VolumeLayout → ℕ → Type 0
 HasNoRun I L n = (lbn : ℕ) → ¬ IsFreeRun I L lbn n
 

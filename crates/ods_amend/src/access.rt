@@ -12,8 +12,8 @@ use ods_request::Refusal;
 use ods_space::{Disk, Draft};
 use std::alloc::Global;
 
-/// The draft that gives a file this owner, H.FOWN, this protection, H.FPRO, and these characteristics, H.UCHA, each where it is given: its first header, with the
-/// sum made anew. The volume stays as it is. Refused as `set_protection` is.
+/// Drafts a new owner (H.FOWN), protection (H.FPRO) and user characteristics (H.UCHA) of a file, each if given: its first header, with a new
+/// checksum. The volume is unchanged. The refusals are those of [`set_protection`].
 pub fn draft_access(
     alloc: Global,
     disk: &Disk<'_>,
@@ -63,9 +63,9 @@ fn set_access(
     }
 }
 
-/// Gives a file another protection word, H.FPRO of its first header: four bits for each class of users, where a set bit denies. Its sum is
-/// made anew; every other byte of the volume stays, those of extension headers too. A system user, whose group is at most 10
-/// octal, and the file's owner may. Refused in this order: NoSuchFile; Reserved for the files 1 to 5; Denied; and NoMemory. Refused, it
+/// Sets the protection word of a file, H.FPRO of its first header: four bits for each class of users, where a set bit denies. The checksum of the
+/// header is renewed. Every other byte of the volume is unchanged, also in extension headers. The user must be a system user, whose group is at most
+/// 10 octal, or the owner of the file. The refusals, in this order: NoSuchFile; Reserved for the files 1 to 5; Denied; NoMemory. If refused, it
 /// changes nothing.
 pub fn set_protection(
     volume: &mut Mounted,
@@ -81,8 +81,8 @@ pub fn set_protection(
     set_access(volume, alloc, who, file, None, Some(protection))
 }
 
-/// Gives a file to another owner, H.FOWN of its first header. Its sum is made anew; every other byte of the volume stays. Who may, and what
-/// is refused, is as of `set_protection`.
+/// Sets the owner of a file, H.FOWN of its first header. The checksum of the header is renewed. Every other byte of the volume is unchanged. The
+/// rights and refusals are those of [`set_protection`].
 pub fn set_owner(
     volume: &mut Mounted,
     alloc: Global,

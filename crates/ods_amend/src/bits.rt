@@ -1,4 +1,4 @@
-//! Blocks that the storage bitmap says are free, or taken, while no file of a sound volume changes.
+//! Blocks that the storage bitmap marks as free or in use, while no file of a sound volume changes.
 ghost use Rattle.std.specs.Prelude.{◌≡◌, true, IfOk};
 ghost use Rattle.std.specs.List.{All};
 ghost use Rattle.ods_mount.specs.Sound.{IsSoundBy};
@@ -9,8 +9,9 @@ use ods_alloc::mark_blocks;
 use ods_space::{Disk, Draft};
 use std::alloc::{AllocError, Global};
 
-/// The draft that has the storage bitmap say of blocks, given by their LBNs, that they are free, or that they are taken, as far as it covers them. Those
-/// that it frees no file may hold, and no home block may be looked for there. The volume stays as it is. It fails for want of memory alone.
+/// Drafts the marks of blocks, given by their LBNs, as free or in use in the storage bitmap. Blocks that the bitmap does not cover are skipped. A
+/// block to free must belong to no file, and must not be a place before the home block where a mount searches for one. The volume is unchanged. It
+/// fails only when out of memory.
 pub fn draft_marks(
     alloc: Global,
     disk: &Disk<'_>,

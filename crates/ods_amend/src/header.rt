@@ -1,4 +1,4 @@
-//! Header blocks with another owner, another protection or other characteristics, and sums made anew.
+//! Header blocks with another owner, another protection or other characteristics, and renewed checksums.
 ghost use Rattle.std.specs.Prelude.{◌≡◌, ◌<◌, ◌/◌, ◌%◌, [], ◌∷◌};
 ghost use Rattle.ods_base.specs.Block.{IsBlock, sum_of, with_word};
 ghost use Rattle.ods_amend.specs.Access.{IsWithAccess};
@@ -6,7 +6,7 @@ ghost use Rattle.ods_amend.specs.Access.{IsWithAccess};
 use ods_base::{Block, Uic, set_word, sum};
 use ods_header::{owner, protection, user_char};
 
-/// Makes word `place` the sum of the words before it. Every other byte stays.
+/// Sets word `place` to the checksum of the words before it. Every other byte is unchanged.
 pub(crate) fn renew_sum(block: &mut Block, place: usize)
     requires { place < 256 }
     ensures changed { block.new ≡ with_word block.old place (sum_of block.old place) }
@@ -30,8 +30,8 @@ fn access_bytes(owner: Uic, protection: u16, flags: u8) -> [u8; 5]
     ]
 }
 
-/// The block of a header with this owner, H.FOWN, this protection word, H.FPRO, and these characteristics, H.UCHA, each where it is given, and with its
-/// sum made anew. Every other byte stays.
+/// Returns the block of a header with this owner (H.FOWN), this protection word (H.FPRO) and these characteristics (H.UCHA), each if given, and with
+/// a new checksum. Every other byte is unchanged.
 pub(crate) fn with_access(
     block: &Block,
     user: Option<Uic>,

@@ -48,7 +48,7 @@ fn with_label(home: &Block, label: &Label) -> Block
     changed
 }
 
-/// The draft that gives a volume this label: the home block, with both sums made anew. The volume stays as it is. It fails for want of memory alone.
+/// Drafts a new label of a volume: the home block, with both checksums renewed. The volume is unchanged. It fails only when out of memory.
 pub fn draft_label(alloc: Global, disk: &Disk<'_>, label: &Label) -> Result<Draft, AllocError>
     requires { on IsSoundBy disk.now }
     ensures { IfOk result (λ draft. on IsLabelled disk.now label.now (applied disk.now.image.now draft)) }
@@ -62,8 +62,8 @@ pub fn draft_label(alloc: Global, disk: &Disk<'_>, label: &Label) -> Result<Draf
     }
 }
 
-/// Gives a volume another label: H.VNAM of the home block, padded with zero bytes, and its copy at byte 472, padded with spaces. Both sums
-/// are made anew; every other byte of the volume stays. It fails for want of memory alone, and then changes nothing.
+/// Sets the label of a volume: H.VNAM of the home block, padded with zero bytes, and its copy at byte 472, padded with spaces. Both checksums are
+/// renewed. Every other byte of the volume is unchanged. It fails only when out of memory, and then changes nothing.
 pub fn set_label(volume: &mut Mounted, alloc: Global, label: &Label) -> Result<(), AllocError>
     ensures ok { OnOk result (Relabels volume.old label.now volume.new) }
     ensures err { OnErr result (volume.new ≡ volume.old) }

@@ -1,4 +1,5 @@
-//! Changes of a sound volume that no request makes: another owner, protection or characteristics of a file, another label of the volume, bits of the storage bitmap.
+//! Changes of a sound volume that no request makes: another owner, protection or characteristics of a file, another label of the volume, bits of the
+//! storage bitmap.
 #![tactic(auto)]
 
 mod access;

@@ -1,4 +1,4 @@
-//! Opening a file to give it another owner or another protection, where the user may.
+//! The check before a file receives another owner or another protection.
 ghost use Rattle.std.specs.Prelude.{◌≡◌, IfOk, IfErr};
 ghost use Rattle.ods_header.specs.Header.{owner_of};
 ghost use Rattle.ods_mount.specs.Sound.{IsSoundBy};
@@ -24,7 +24,7 @@ fn may_give(who: &Uic, owner: &Uic) -> bool
     who.group <= SYSTEM_GROUP || (who.group == owner.group && who.member == owner.member)
 }
 
-/// The first header of a file to which the user may give another owner or another protection; or the first fault.
+/// Returns the first header of a file to which the user may give another owner or another protection, or the first fault.
 pub(crate) fn open_to_give<'a>(
     disk: &Disk<'a>,
     who: Uic,

@@ -1,4 +1,4 @@
-//! Runs of free blocks: where the lowest one that is long enough begins, and which blocks are free before it.
+//! Runs of free blocks: the LBN of the lowest run that is long enough, and the free blocks below an LBN.
 ghost use Rattle.std.specs.Prelude.{◌≡◌, ◌∷◌, ◌++◌, [], if◌then◌else◌, IfNone, IfOk, IfSome, OnOk};
 ghost use Rattle.ods_space.specs.Free.{is_free_block};
 ghost use Rattle.ods_space.specs.Disks.{on, seen};
@@ -7,7 +7,7 @@ ghost use Rattle.ods_amend.specs.Runs.{HasNoRun, IsLowestRun, free_below as thos
 use ods_space::{Disk, is_free};
 use std::alloc::{AllocError, Global};
 
-/// The LBN where the lowest run of so many free blocks begins. There is none where no so many blocks one behind another are free.
+/// Returns the LBN of the lowest run of `blocks` consecutive free blocks, or `None` if there is no such run.
 pub fn lowest_run(disk: &Disk<'_>, blocks: u32) -> Option<u32>
     ensures some { IfSome result (on IsLowestRun disk.now blocks) }
     ensures none { IfNone result (on HasNoRun disk.now blocks) }
@@ -26,7 +26,7 @@ pub fn lowest_run(disk: &Disk<'_>, blocks: u32) -> Option<u32>
     None
 }
 
-/// The free blocks below this LBN, ascending.
+/// Returns the LBNs of the free blocks below this LBN, ascending. It fails only when out of memory.
 pub fn free_below(alloc: Global, disk: &Disk<'_>, lbn: u32) -> Result<Vec<u32>, AllocError>
     ensures { IfOk result (λ blocks. blocks.items ≡ seen those_free_below disk.now lbn) }
 {

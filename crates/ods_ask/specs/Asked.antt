@@ -1,4 +1,4 @@
--- What the commands of a script ask for, and what `$` stands for.
+-- The requests of the commands of a script, and the value of `$`.
 use Rattle.std.specs.Prelude.{ℕ, List, Option, Some, All, MatchOption}
 use Rattle.std.specs.Option.{option_map, option_and_then}
 use Rattle.ods_base.specs.declared.file_id.FileId.{FileId}
@@ -19,12 +19,12 @@ use Rattle.ods_ask.specs.declared.script.Action.{Action}
 use Rattle.ods_ask.specs.declared.script.Action.TheVariants as action
 use Rattle.ods_ask.specs.declared.script.Command.{Command}
 
--- the file that is meant, if `$` stands for one
+-- the file of the ID, if `$` stands for one
 abbrev pub resolved : Option FileId → Id → Option FileId
 resolved last (Given id) = Some id
 resolved last Last = last
 
--- the request that is meant, with this stamp; none where `$` stands for no file
+-- the request of the command, with this stamp; none if `$` stands for no file
 abbrev pub request_of : List ℕ → Option FileId → Ask → Option Request
 request_of stamp last (ask.Create name version blocks) = Some (request.Create name version blocks stamp)
 request_of stamp last (ask.Extend file blocks) = option_map (λ f. request.Extend f blocks) (resolved last file)
@@ -40,13 +40,13 @@ request_of stamp last (ask.List dir) = option_map (λ d. request.List d) (resolv
 request_of stamp last (ask.Stat file) = option_map (λ f. request.Stat f) (resolved last file)
 request_of stamp last (ask.SetUser file attributes) = option_map (λ f. request.SetUser f attributes) (resolved last file)
 
--- the query that is meant; none where `$` stands for no file
+-- the query of the view; none if `$` stands for no file
 abbrev pub query_of : Option FileId → Look → Option Query
 query_of last (look.LookUp dir name pick) = option_map (λ d. query.LookUp d name pick) (resolved last dir)
 query_of last (look.Read file vbn) = option_map (λ f. query.Read f vbn) (resolved last file)
 query_of last (look.Stat file) = option_map (λ f. query.Stat f) (resolved last file)
 
--- what `$` stands for after an answer: the file that was made, found or taken out
+-- the value of `$` after an answer: the file that was made, found or removed
 abbrev pub last_after : Option FileId → Answer → Option FileId
 last_after last (answer.Created id) = Some id
 last_after last (answer.Extended count) = last
@@ -59,7 +59,7 @@ last_after last (answer.Bytes block) = last
 last_after last (answer.Names lines) = last
 last_after last (answer.Info stat) = last
 
--- whatever `$` stands for, what the command asks for may be made
+-- for each value of `$`, the request of the command can be asked
 abbrev pub CanBeObeyed : Action → Type 0
 CanBeObeyed (action.User who) = Unit {0}
 CanBeObeyed (action.Submit a) = (stamp : List ℕ) (last : Option FileId) → MatchOption (request_of stamp last a) (Unit {0}) CanBeAsked

@@ -1,4 +1,4 @@
-//! Which request or query a command asks for, and what `$` stands for in the next one.
+//! The request or query of a command, and the value of `$` in the next command.
 ghost use Rattle.std.specs.Prelude.{◌≡◌, MatchOption, IfOk, Some, None};
 ghost use Rattle.ods_ask.specs.Asked.{resolved as id_of, request_of, query_of, last_after};
 
@@ -18,7 +18,7 @@ fn resolve(last: Option<FileId>, id: Id) -> Option<FileId>
     }
 }
 
-/// What `$` stands for after an answer.
+/// Returns the value of `$` after an answer.
 pub fn last_from(last: Option<FileId>, answer: &CompactAnswer) -> Option<FileId>
     ensures { result ≡ last_after last answer.now }
 {
@@ -29,9 +29,8 @@ pub fn last_from(last: Option<FileId>, answer: &CompactAnswer) -> Option<FileId>
     }
 }
 
-/// The request that a command asks for; none where it uses `$`, and `$` stands for no file. A Write
-/// shares the command's block. It takes no memory, and fails only where that block has as many owners
-/// as can be counted.
+/// Returns the request of a command, or `None` if it uses `$`, and `$` stands for no file. A Write shares the block of the command. It takes no
+/// memory, and fails only if that block already has as many owners as can be counted.
 pub fn request_for(
     stamp: Stamp,
     last: Option<FileId>,
@@ -112,7 +111,7 @@ pub fn request_for(
     Some(Ok(CompactRequest::new(form)))
 }
 
-/// The query that a view asks for; none where it uses `$`, and `$` stands for no file.
+/// Returns the query of a view, or `None` if it uses `$`, and `$` stands for no file.
 pub fn query_for(last: Option<FileId>, look: &Look) -> Option<Query>
     ensures { result ≡ query_of last look.now }
 {

@@ -1,4 +1,4 @@
-//! Scripts as values: what a session is to do, what each command asks for, and what comes of it. No volume, thread or text.
+//! Scripts as values: the commands of a session, the request of each command, and the outcome. The crate has no volume, thread or text.
 #![tactic(auto)]
 
 mod asking;

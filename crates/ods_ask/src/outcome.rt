@@ -1,8 +1,8 @@
-//! What comes of a script: its replies, and its calls.
+//! The outcome of a script: its replies, and its calls.
 use ods_base::Uic;
 use ods_request::{CompactAnswer, CompactRequest, Refusal};
 
-/// What a command is replied.
+/// The reply to a command.
 #[derive(Drop, PartialEq, Eq, Debug)]
 pub enum Reply {
     /// The user changed.
@@ -11,9 +11,9 @@ pub enum Reply {
     Got(CompactAnswer),
     /// The request was refused.
     No(Refusal),
-    /// There is no version to look at any more.
+    /// There is no version left to read.
     Closed,
-    /// The command is none, or `$` stands for no file in it.
+    /// The line is not a valid command, or `$` stands for no file in it.
     Bad,
 }
 
@@ -24,13 +24,13 @@ pub struct Call {
     pub nth: u32,
     /// The user in force.
     pub who: Uic,
-    /// The request, as `$` and the stamp made it.
+    /// The request, with the values of `$` and the stamp inserted.
     pub request: CompactRequest,
-    /// What the desk answered.
+    /// The answer of the desk.
     pub answer: CompactAnswer,
 }
 
-/// What comes of a script: its accepted requests in order, and a reply for each command.
+/// The outcome of a script: its accepted requests in order, and a reply for each command.
 #[derive(Drop, PartialEq, Eq, Debug)]
 pub struct Outcome {
     pub calls: Vec<Call>,

@@ -1,33 +1,33 @@
-//! Scripts as values: the commands that the lines of a session's script give.
+//! Scripts as values: the commands that the lines of a session's script contain.
 use ods_base::{Block, FileId, Name, Pick, Uic};
 use std::alloc::Global;
 use std::sync::Arc;
 
-/// A file in a command: its ID, or `$`, which stands for the ID that the session was last answered by a Create, a LookUp or a Remove.
+/// A file in a command: its ID, or `$`, which stands for the last ID in an answer to a Create, a LookUp or a Remove of the session.
 #[derive(Clone, Copy, PartialEq, Eq, Debug)]
 pub enum Id {
     /// The file with this ID.
     Given(FileId),
-    /// The file that `$` stands for.
+    /// The file for which `$` stands.
     Last,
 }
 
-/// A request as a script asks for it: an [`Id`] stands for each file, and the stamp of a new file is the run's.
+/// A request as a script writes it: an [`Id`] stands for each file, and the run gives the stamp of a new file.
 #[derive(Drop, PartialEq, Eq, Debug)]
 pub enum Ask {
-    /// Makes a file of the user, of this many blocks of zeros, or a directory where the type is DIR.
+    /// Makes a file of the user, of this many blocks of zeros, or a directory if the type is DIR.
     Create {
         name: Name,
         /// From 1 to 32,767.
         version: u16,
         blocks: u32,
     },
-    /// Puts this many blocks of zeros behind a file's own.
+    /// Adds this many blocks of zeros after the blocks of a file.
     Extend {
         file: Id,
         blocks: u32,
     },
-    /// Keeps this many of a file's blocks, the first ones, and gives the others back.
+    /// Keeps the first `blocks` blocks of a file, and gives the others back.
     Truncate {
         file: Id,
         blocks: u32,
@@ -36,11 +36,11 @@ pub enum Ask {
     Delete {
         file: Id,
     },
-    /// Enters a file in a directory, under the version given, or the highest of the name and one more, or 1.
+    /// Enters a file in a directory, under the given version. Without one it is the highest version of the name plus one, or 1.
     Enter {
         dir: Id,
         name: Name,
-        /// From 1 to 32,767, where one is given.
+        /// From 1 to 32,767, if one is given.
         version: Option<u16>,
         file: Id,
     },
@@ -50,7 +50,7 @@ pub enum Ask {
         name: Name,
         pick: Pick,
     },
-    /// Takes a name out of a directory.
+    /// Removes a name from a directory.
     Remove {
         dir: Id,
         name: Name,
@@ -65,15 +65,14 @@ pub enum Ask {
     Write {
         file: Id,
         vbn: u32,
-        /// Shared with the list and the call that come of the command, so that it stands once. Other
-        /// commands stay small.
+        /// The block is shared with the list and the call of the command, so that it is stored once. Other commands stay small.
         block: Arc<Block, Global>,
     },
     /// Lists a directory.
     List {
         dir: Id,
     },
-    /// Shows what a file is.
+    /// Returns the facts of a file.
     Stat {
         file: Id,
     },
@@ -84,31 +83,31 @@ pub enum Ask {
     },
 }
 
-/// A query as a script asks for it.
+/// A query as a script writes it.
 #[derive(Clone, Copy, PartialEq, Eq, Debug)]
 pub enum Look {
     /// Looks a name up in a directory.
     LookUp { dir: Id, name: Name, pick: Pick },
     /// Reads the block with this virtual block number, counted from 1.
     Read { file: Id, vbn: u32 },
-    /// Shows what a file is.
+    /// Returns the facts of a file.
     Stat { file: Id },
 }
 
-/// What a line of a script commands.
+/// The action of a line of a script.
 #[derive(Drop, PartialEq, Eq, Debug)]
 pub enum Action {
-    /// The session goes on as this user.
+    /// Sets the user of the next commands.
     User(Uic),
-    /// A request is made of the desk.
+    /// Submits a request to the desk.
     Submit(Ask),
-    /// A query is answered beside the lock.
+    /// Answers a query without the lock.
     View(Look),
-    /// The line is no command.
+    /// The line is not a valid command.
     Bad,
 }
 
-/// A command with the number of its line, or any other number that the caller gives it.
+/// A command with the number of its line, or any other number that the caller gives.
 #[derive(Drop, PartialEq, Eq, Debug)]
 pub struct Command {
     pub nth: u32,

@@ -1,4 +1,4 @@
--- The two forms of an image: alone with its blocks, or over blocks that others share.
+-- The two forms of an image: alone with its blocks, or over a fixed image.
 use Rattle.std.specs.Prelude.{ℕ, List}
 use Rattle.ods_base.specs.declared.image.Kept.{Kept}
 use Rattle.ods_base.specs.declared.image.Kept.TheVariants.{Alone, Over}

@@ -1,10 +1,10 @@
--- What an image over shared blocks is made of: a base that never changes, and the blocks that changed, each in a seat of its own.
+-- The parts of an image over a fixed one: an immutable base, and the changed blocks, each in a seat.
 use Rattle.std.specs.Prelude.{◌≡◌, ℕ, zero, suc, ◌-◌, ◌<◌, ◌≤◌, List, [], ◌∷◌, map, length, slice_index, cond, ◌==◌}
 use Rattle.std.specs.List.{range_with_len}
 use Rattle.ods_base.specs.Block.{zeros}
 use Rattle.ods_base.specs.Image.{IsImage, block_at}
 
--- the block at an LBN: where the seats have 0, or nothing, it is that of the base B, and else that which they say, counted from 1, of the own blocks C
+-- the block at an LBN: if its seat is 0 or missing, it is the block of the base B; otherwise the seat is its index, from 1, in the own blocks C
 abbrev pub overlaid_at : List (List ℕ) → List ℕ → List (List ℕ) → ℕ → List ℕ
 overlaid_at B P C lbn = cond (slice_index P lbn == 0) (block_at B lbn) (block_at C (slice_index P lbn - 1))
 
@@ -12,14 +12,15 @@ overlaid_at B P C lbn = cond (slice_index P lbn == 0) (block_at B lbn) (block_at
 unfoldable pub overlaid : List (List ℕ) → List ℕ → List (List ℕ) → List (List ℕ)
 overlaid B P C = map (overlaid_at B P C) (range_with_len 0 (length B))
 
--- how many of the seats are neither 0 nor 1
+-- the number of seats that are neither 0 nor 1
 abbrev pub used : List ℕ → ℕ
 used [] = 0
 used (zero ∷ ps) = used ps
 used (suc zero ∷ ps) = used ps
 used (suc (suc p) ∷ ps) = suc (used ps)
 
--- Seat 1 is a block of zeros, for all that became zeros before they had another seat. Each other block that changed has a seat of its own, and there are no others.
+-- Seat 1 is a block of zeros. A block that became zeros before it had another seat has seat 1. Each other changed block has its own seat, and there
+-- are no other seats.
 pub record IsOverlay (size : ℕ) (P : List ℕ) (C : List (List ℕ)) : Type 0 where
   pub few : length P ≤ size
   pub first : block_at C 0 ≡ zeros
@@ -27,13 +28,13 @@ pub record IsOverlay (size : ℕ) (P : List ℕ) (C : List (List ℕ)) : Type 0 
   pub within : (k : ℕ) → slice_index P k ≤ length C
   pub apart : (i k : ℕ) → slice_index P i ≡ slice_index P k → 1 < slice_index P i → i ≡ k
 
--- the seats go on with zeros, and there are so many of them, or as many as before
+-- the seats are extended with zeros, to `size` seats or to as many as before
 pub record HasReached (size : ℕ) (P Q : List ℕ) : Type 0 where
   pub few : (n : ℕ) → size ≤ n → length P ≤ n → length Q ≤ n
   pub count : used Q ≡ used P
   pub same : (k : ℕ) → slice_index Q k ≡ slice_index P k
 
--- what an image over shared blocks keeps: there is room for each block to be changed, and for the zeros
+-- the invariant of an image over a fixed one: it has reserved room to change each block, and for the block of zeros
 pub record IsHeld (B : List (List ℕ)) (P : List ℕ) (C : List (List ℕ)) (seats own : ℕ) : Type 0 where
   pub image : IsImage (overlaid B P C)
   pub overlay : IsOverlay (length B) P C

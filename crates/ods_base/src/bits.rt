@@ -1,10 +1,10 @@
-//! Single bits of a block, counted from the low end of each byte, and 64 of them at once.
+//! Bits of a block, numbered from the low end of each byte: one at a time, or 64 at once.
 ghost use Rattle.std.specs.Prelude.{◌≡◌, ◌+◌, ◌*◌, ◌<◌};
 ghost use Rattle.ods_base.specs.{Block.IsBlock, Block.has_bit, Bits.HasBit, Bits.IsWordOf};
 
 use crate::Block;
 
-/// Bit `i` of a block.
+/// Returns bit `i` of a block.
 pub fn bit(block: &Block, i: u32) -> bool
     requires { i < 4096 }
     ensures { result ≡ has_bit block.now i }
@@ -12,7 +12,7 @@ pub fn bit(block: &Block, i: u32) -> bool
     block.byte((i / 8) as usize) >> (i % 8) & 1 == 1
 }
 
-/// Sets or clears bit `i` of a block. Every other bit stays.
+/// Sets or clears bit `i` of a block. Every other bit is unchanged.
 pub fn set_bit(block: &mut Block, i: u32, value: bool)
     requires { i < 4096 }
     ensures stays { IsBlock block.new }
@@ -26,7 +26,7 @@ pub fn set_bit(block: &mut Block, i: u32, value: bool)
     block.set_bytes(at, &[byte]);
 }
 
-/// The 64 bits of a block from bit `64 * k` on.
+/// Returns 64 bits of a block, from bit `64 * k` on.
 pub fn bit_word(block: &Block, k: u32) -> u64
     requires { k < 64 }
     ensures { IsWordOf (λ i. has_bit block.now (64 * k + i)) result }

@@ -1,4 +1,4 @@
-//! Images that change no more, whose blocks other images share.
+//! Immutable images, whose blocks other images share.
 ghost use Rattle.std.specs.Prelude.{◌≡◌, ◌<◌, ◌↔◌, IsTrue, length, IfOk, IfErr};
 ghost use Rattle.ods_base.specs.{Block.IsBlock, Image.IsImage, Image.block_at};
 
@@ -7,7 +7,7 @@ use std::alloc::AllocError;
 use std::marker::Model;
 use std::sync::Arc;
 
-/// An image that changes no more. Images that were as it is share those of its blocks that they did not change.
+/// An immutable image. Images over it share the blocks that they have not changed.
 #[derive(Drop)]
 pub struct FixedImage {
     blocks: Arc<Vec<Block>>,
@@ -46,7 +46,7 @@ impl FixedImage {
         Ok(FixedImage { blocks })
     }
 
-    /// The number of blocks.
+    /// Returns the number of blocks.
     pub fn len(&self) -> u32
         ensures value { result ≡ length self.now }
         ensures image { IsImage self.now }
@@ -54,7 +54,7 @@ impl FixedImage {
         self.blocks.len() as u32
     }
 
-    /// The block at this LBN.
+    /// Returns the block at this LBN.
     pub fn block(&self, lbn: u32) -> &Block
         requires { lbn < length self.now }
         ensures value { result.now ≡ block_at self.now lbn }
@@ -63,7 +63,7 @@ impl FixedImage {
         &self.blocks[lbn as usize]
     }
 
-    /// Whether the image has these blocks.
+    /// Returns whether `image` has the same blocks.
     pub fn is(&self, image: &Image) -> bool
         ensures { IsTrue result ↔ (image.now ≡ self.now) }
     {

@@ -36,18 +36,18 @@ impl Model for Image {
     ghost invariant = { λ i. IsImage (blocks_of i.kept) };
 }
 
-/// The blocks of the largest image.
+/// The number of blocks of the largest image.
 pub const MAX_BLOCKS: u32 = 1_048_576;
 
-/// The bytes of the largest image.
+/// The number of bytes of the largest image.
 pub const MAX_BYTES: usize = 536_870_912;
 
-/// How many bytes are asked for in one read, and handed to one write: an image of a floppy is some 4 calls of the system then.
+/// The most bytes that one read requests, and that one write passes on. An image of a floppy needs some 4 system calls.
 pub const PIECE: usize = 65_536;
 
 impl Image {
-    /// The image of these bytes. Too many bytes are found before a last block that is not whole. Bytes that are whole
-    /// blocks within the limit are refused for want of memory alone.
+    /// Makes an image of these bytes. `TooBig` takes precedence over `NotWholeBlocks`. If the bytes are whole blocks within the limit, the only error
+    /// is out of memory.
     pub fn from_bytes(alloc: Global, bytes: &[u8]) -> Result<Image, ImageError>
         ensures ok { IfOk result (λ image. IsImage image × (image_bytes image ≡ bytes.now)) }
         ensures err { IfErr result (IsNoImage bytes.now) }
@@ -81,7 +81,7 @@ impl Image {
         Image { kept }
     }
 
-    /// The number of blocks.
+    /// Returns the number of blocks.
     pub fn len(&self) -> u32
         ensures value { result ≡ length self.now }
         ensures image { IsImage self.now }
@@ -92,14 +92,14 @@ impl Image {
         }
     }
 
-    /// Whether there is no block.
+    /// Returns whether the image has no blocks.
     pub fn is_empty(&self) -> bool
         ensures { result ≡ (length self.now == 0) }
     {
         self.len() == 0
     }
 
-    /// The block at this LBN.
+    /// Returns the block at this LBN.
     pub fn block(&self, lbn: u32) -> &Block
         requires { lbn < length self.now }
         ensures value { result.now ≡ block_at self.now lbn }
@@ -119,7 +119,7 @@ impl Image {
         self.copy_block(lbn, &block);
     }
 
-    /// The block at this LBN becomes this one, which is copied once.
+    /// Replaces the block at this LBN with a copy of `block`. The block is copied once.
     pub fn copy_block(&mut self, lbn: u32, block: &Block)
         requires { lbn < length self.old }
         ensures { self.new ≡ slice_set self.old lbn block.now }
@@ -131,7 +131,8 @@ impl Image {
         }
     }
 
-    /// The block at this LBN becomes zeros. An image over shared blocks keeps one block for all that did.
+    /// Replaces the block at this LBN with zeros. In an image over a fixed one, all blocks that became zeros before they had their own seat share one
+    /// block of zeros.
     pub fn set_zeros(&mut self, lbn: u32)
         requires { lbn < length self.old }
         ensures { self.new ≡ slice_set self.old lbn zeros }
@@ -143,7 +144,7 @@ impl Image {
         }
     }
 
-    /// An equal image: over the same blocks where this one shares them, and else in memory of its own.
+    /// Returns an equal image. A copy of an image over a fixed one shares its base. Otherwise the copy has its own blocks.
     pub fn copy(&self) -> Result<Image, AllocError>
         ensures { IfOk result (λ image. image ≡ self.now) }
     {
@@ -159,8 +160,8 @@ impl Image {
         }
     }
 
-    /// The image as it is, to be changed no more, and an equal one over the same blocks, with room for each of them to be changed.
-    /// After a refusal the image comes back.
+    /// Splits the image into a fixed one and an equal image over it, with reserved room to change each block. When out of memory, it returns the
+    /// image unchanged.
     pub fn split(self) -> Result<(FixedImage, Image), Image>
         ensures ok { IfOk result (λ two. (two.0 ≡ self) × (two.1 ≡ self)) }
         ensures err { IfErr result (λ image. image ≡ self) }
@@ -195,7 +196,7 @@ impl Image {
     }
 }
 
-/// Two images are equal where their blocks have the same bytes.
+/// Two images are equal if their blocks have the same bytes.
 impl PartialEq for Image {
     ghost use Rattle.std.specs.Prelude.{nat_eq};
     ghost use Rattle.std.specs.Cmp.{partial_equiv_from_equiv};

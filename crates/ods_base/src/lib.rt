@@ -1,4 +1,4 @@
-//! Blocks, words, sums, images and names of Files-11 volumes of structure level 1.
+//! Blocks, words, checksums, images and names of Files-11 volumes of structure level 1.
 #![tactic(auto)]
 
 mod bits;

@@ -1,4 +1,4 @@
-//! An image over blocks that others share: those that it changed stand beside them.
+//! Images over shared blocks. The changed blocks are stored next to the base.
 ghost use Rattle.std.specs.Prelude.{◌≡◌, ◌<◌, length, slice_set, IfOk};
 ghost use Rattle.ods_base.specs.{Block.IsBlock, Block.zeros, Image.IsImage, Image.block_at};
 

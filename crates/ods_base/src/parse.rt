@@ -1,4 +1,4 @@
-//! The names that texts spell.
+//! Parsing of names.
 ghost use Rattle.std.specs.Prelude.{◌≡◌, ◌<◌, ◌≤◌, ℕ, List, length, IfOk, IsOkAnd};
 ghost use Rattle.std.specs.Fmt.{decimal};
 ghost use Rattle.std.specs.List.{All};
@@ -7,11 +7,11 @@ ghost use Rattle.ods_base.specs.{Name.RadName, Name.Spells, Name.IsVersionText, 
 use crate::{Name, NameFault, Pick};
 use ods_text::{place_of, read_small};
 
-/// The highest version that a file has.
+/// The highest version that a file can have.
 pub const LAST_VERSION: u16 = 32_767;
 
-/// The name that a text spells, as `A.TXT;1`, and the version that it picks: the one given, the
-/// lowest by `;-1`, the highest by `;0` or where there is none. A `NameFault` where the text is no name.
+/// Parses a name such as `A.TXT;1`, with the version that it picks: a number, the lowest for `;-1`, or the highest for `;0` or no version. Returns a
+/// `NameFault` if the text is not a valid name.
 pub fn parse_name(text: &[u8]) -> Result<(Name, Pick), NameFault>
     ensures ok { IfOk result (λ found. Spells text.now found.0 found.1) }
     ensures only { (n : RadName) (pick : Pick) → Spells text.now n pick → result ≡ Ok (n, pick) }

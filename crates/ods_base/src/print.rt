@@ -1,4 +1,4 @@
-//! The texts of names, as they are printed.
+//! Printing of names.
 ghost use Rattle.std.specs.Prelude.{◌≡◌, ◌+◌, ◌-◌, ◌≤◌, ◌==◌, ◌++◌, length, take, slice_index};
 ghost use Rattle.std.specs.List.{suffix_len};
 ghost use Rattle.arrayvec.specs.ArrayString.{array_string_len};
@@ -8,14 +8,14 @@ use crate::Name;
 use arrayvec::ArrayString;
 use itoa::Buffer;
 
-/// The text of a name with its version, as `A.TXT;1`: at most 19 characters.
+/// Returns the text of a name with its version, such as `A.TXT;1`: at most 19 characters.
 pub fn print_name(name: &Name, version: u16) -> ArrayString<19>
     ensures { result.bytes ≡ name_version_text name.now version }
 {
     print_words(name.words(), name.ext(), version)
 }
 
-/// The text of a name without its type, as `A`: at most nine characters.
+/// Returns the text of a name without its type, such as `A`: at most nine characters.
 pub fn print_title(name: &Name) -> ArrayString<9>
     ensures { result.bytes ≡ title name.now }
 {
@@ -24,7 +24,7 @@ pub fn print_title(name: &Name) -> ArrayString<9>
     text
 }
 
-/// The text of the type of a name, as `TXT`: at most three characters.
+/// Returns the text of the type of a name, such as `TXT`: at most three characters.
 pub fn print_type(name: &Name) -> ArrayString<3>
     ensures { result.bytes ≡ type_text name.now }
 {
@@ -33,8 +33,7 @@ pub fn print_type(name: &Name) -> ArrayString<3>
     text
 }
 
-/// The text of name words as they stand, with a version; a word of 64,000 or more, which no three
-/// characters have, is shown as `???`.
+/// Returns the text of unchecked name words with a version. A word of 64,000 or more spells no characters and is printed as `???`.
 pub fn print_words(words: [u16; 3], ext: u16, version: u16) -> ArrayString<19>
     ensures { result.bytes ≡ name_version_text (record { words = words; ext = ext }) version }
 {

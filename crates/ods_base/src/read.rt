@@ -10,9 +10,8 @@ use std::alloc::{AllocError, Global};
 use std::io::Read;
 
 impl Image {
-    /// The image of all that the reader gives: at most 536,870,913 bytes are taken from it. A read of
-    /// 0 bytes is the end. A read that fails is not tried again, whatever its error. The reader may give its bytes in
-    /// pieces of any size.
+    /// Reads an image up to the end of the reader. It takes at most 536,870,913 bytes, and a read of 0 bytes is the end. A failed read is not
+    /// retried, whatever its error. The reader may return its bytes in pieces of any size.
     pub fn read_from<R: Read>(alloc: Global, reader: &mut R) -> Result<Image, ImageError>
         ensures { (bytes : List ℕ) × Consumes (R.remaining reader.old) (R.remaining reader.new) bytes
             × MatchResult result (λ image. IsImage image × (image_bytes image ≡ bytes) × IsAtEnd (R.remaining reader.new))

@@ -1,4 +1,4 @@
-//! Images that are cut or lengthened in their own memory: no second list of their blocks is held.
+//! Images that are cut or lengthened in their own memory, without a second list of their blocks.
 ghost use Rattle.std.specs.Prelude.{◌≡◌, ◌≤◌, ◌-◌, ◌^◌, ◌++◌, IfOk, length, take, drop, replicate};
 ghost use Rattle.ods_base.specs.{Block.zeros, Image.IsImage, Image.image_bytes};
 
@@ -6,7 +6,8 @@ use crate::{Block, Image};
 use std::alloc::{AllocError, Global};
 
 impl Image {
-    /// The first `count` blocks as an image, and the bytes of the blocks behind them. An image over shared blocks gets a list of its own first.
+    /// Returns the first `count` blocks as an image, and the bytes of the blocks after them. An image over a fixed one first receives its own list of
+    /// blocks.
     pub fn cut(self, alloc: Global, count: u32) -> Result<(Image, Vec<u8>), AllocError>
         requires { count ≤ length self }
         ensures image { IfOk result (λ parts. parts.0 ≡ take count self) }
@@ -21,7 +22,7 @@ impl Image {
         Ok((Image::alone(blocks), behind))
     }
 
-    /// The image with blocks of zeros behind its own, `count` in all. An image over shared blocks gets a list of its own first.
+    /// Appends blocks of zeros until the image has `count` blocks. An image over a fixed one first receives its own list of blocks.
     pub fn lengthen(self, count: u32) -> Result<Image, AllocError>
         requires more { length self ≤ count }
         requires few { count ≤ 2 ^ 20 }

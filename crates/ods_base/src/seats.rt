@@ -1,4 +1,4 @@
-//! The blocks of an image that changed: where each of them stands, and what it is now.
+//! The changed blocks of an image: the seat of each, and its bytes.
 ghost use Rattle.std.specs.Prelude.{◌≡◌, ◌+◌, ◌^◌, ◌<◌, ◌≤◌, ℕ, List, length, slice_index, slice_set};
 ghost use Rattle.std.specs.Vec.{vec_capacity};
 ghost use Rattle.ods_base.specs.{Block.zeros, Overlay.overlaid, Overlay.IsOverlay, Overlay.HasReached};

@@ -1,4 +1,4 @@
-//! Writing of images: in pieces of 64 KiB, with a count of what went out.
+//! Writing of images: in pieces of 64 KiB, with a count of the written bytes.
 ghost use Rattle.std.specs.Prelude.{◌≡◌, ◌+◌, ◌^◌, ◌<◌, ◌≤◌, ◌++◌, ℕ, length, take, OnOk, IfOk, IfErr};
 ghost use Rattle.std.specs.Io.KnownBytes.{Appends};
 ghost use Rattle.ods_base.specs.Image.{image_bytes, TookBytes};
@@ -9,8 +9,8 @@ use arrayvec::ArrayVec;
 use std::io::Write;
 
 impl Image {
-    /// Writes the bytes of all blocks, in order, by its own loop over `write`. A write of 0 bytes is one
-    /// that failed. A fault says how many bytes the writer took before.
+    /// Writes the bytes of all blocks in order, by its own loop over `write`. A write of 0 bytes counts as failed. The fault has the number of bytes
+    /// that the writer took before.
     pub fn write_to<W: Write>(&self, writer: &mut W) -> Result<(), WriteFault>
         ensures ok { OnOk result (Appends (W.contents writer.old) (W.contents writer.new) (image_bytes self.now)) }
         ensures err { IfErr result (λ fault. TookBytes (W.contents writer.old) (W.contents writer.new) (image_bytes self.now) fault.written) }
@@ -37,8 +37,8 @@ fn hold_back(piece: &mut ArrayVec<u8, PIECE>, block: &Block)
     let _ = piece.try_extend_from_slice(block.bytes());
 }
 
-/// Writes all of a piece, as [`write_bytes`] does, where `before` bytes went out already, and says how many have then. A fault counts those before
-/// too.
+/// Writes all bytes of a piece as [`write_bytes`] does, after `before` bytes. Returns the total number of written bytes. A fault counts the `before`
+/// bytes too.
 pub fn write_piece<W: Write>(writer: &mut W, piece: &[u8], before: u64) -> Result<u64, WriteFault>
     requires { before + length piece.now < 2 ^ 64 }
     ensures ok { IfOk result (λ after. (after ≡ before + length piece.now)
@@ -54,8 +54,8 @@ pub fn write_piece<W: Write>(writer: &mut W, piece: &[u8], before: u64) -> Resul
     }
 }
 
-/// Writes all of these bytes, by its own loop over `write`. A write of 0 bytes is one that failed, and a
-/// write that failed is not tried again. A fault says how many bytes the writer took before.
+/// Writes all of these bytes, by its own loop over `write`. A write of 0 bytes counts as failed, and a failed write is not retried. The fault has the
+/// number of bytes that the writer took before.
 pub fn write_bytes<W: Write>(writer: &mut W, bytes: &[u8]) -> Result<(), WriteFault>
     ensures ok { OnOk result (Appends (W.contents writer.old) (W.contents writer.new) bytes.now) }
     ensures err { IfErr result (λ fault. TookBytes (W.contents writer.old) (W.contents writer.new) bytes.now fault.written) }

@@ -1,4 +1,4 @@
--- A new file: what its first header says, and what the blocks of its volume become.
+-- A new file: the fields of its first header, and the blocks of its volume afterwards.
 use Rattle.std.specs.Prelude.{◌≡◌, ℕ, ◌+◌, List, []}
 use Rattle.std.specs.List.{Contains}
 use Rattle.ods_base.specs.Block.{zeros}
@@ -16,7 +16,7 @@ use Rattle.ods_state.specs.Moves.{new_attributes}
 use Rattle.ods_state.specs.Wants.{allocated_blocks}
 use Rattle.ods_state.specs.Growth.{IsReady}
 
--- the ID of a new file whose first header is n: the old sequence number of that header's block, and one
+-- the ID of a new file whose first header is n: the old sequence number of that header's block, plus one
 abbrev pub new_id : List (List ℕ) → VolumeLayout → ℕ → FileId
 new_id I L n = record { number = n; sequence = sequence_of (header_at I L n) + 1 }
 
@@ -26,7 +26,7 @@ pub record IsNewHeaderFor (who : Uic) (protection : ℕ) (id : FileId) (name : R
   pub rest : AreZeros b 102 510
   pub fields : header_of b ≡ primary_header id who protection (new_attributes name count) (new_ident name version stamp)
 
--- J is I with file n made: b is written as its first header and zeros as the blocks that it takes, and then its chain grows by them
+-- J is I with file n made: b is its first header, its new blocks are zeros, and then its chain grows by them
 pub record IsMadeFile (I : List (List ℕ)) (L : VolumeLayout) (n : ℕ) (b : List ℕ) (count : ℕ) (numbers : List ℕ) (J : List (List ℕ)) : Type 0 where
   pub ready : List (List ℕ)
   pub is_ready : IsReady I ready L n [] count

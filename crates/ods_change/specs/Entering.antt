@@ -1,4 +1,4 @@
--- What an Enter finds of a name that can be entered, and when that needs a block more of its directory.
+-- The findings of an Enter about a name that can be entered, and when the directory needs one more block.
 use Rattle.std.specs.Prelude.{◌≡◌, ℕ, List, MatchResult, Option, None, Result}
 use Rattle.std.specs.FinMap.{insert}
 use Rattle.ods_base.specs.Name.{RadName, key_of}
@@ -29,7 +29,8 @@ refusal_of fault.NoSuchName = refusal.NoSuchName
 refusal_of fault.NameTaken = refusal.NameTaken
 refusal_of fault.VersionsFull = refusal.VersionsFull
 
--- The Enter is not refused, and this is what it writes: with the bytes at the slot, behind a block of zeros where the slot grows, the directory has one name more.
+-- The Enter is not refused, and this is the entry that it writes. With the bytes at the slot, after a block of zeros if the slot grows, the directory
+-- has one name more.
 pub record IsEntryFor (I : List (List ℕ)) (L : VolumeLayout) (who : Uic) (dir : FileId) (name : RadName) (given : Option ℕ) (file : FileId) (new : NewEntry) : Type 0 where
   pub own : IsOpenDirectory I L dir who right.Write new.opened
   pub answered : IsAnsweredBy I L who (Enter dir name given file) (Entered new.version)
@@ -39,39 +40,39 @@ pub record IsEntryFor (I : List (List ℕ)) (L : VolumeLayout) (who : Uic) (dir 
       ≡ insert (names_of new.opened.blocks new.opened.mark) (key_of name new.version) file
   pub stays : IsDirectory (written (grown new.opened.blocks new.slot) new.slot.at new.bytes) new.slot.mark
 
--- and the entry knows its volume and its directory
+-- and the entry has its volume and its directory
 pub record IsNewEntry (I : List (List ℕ)) (L : VolumeLayout) (who : Uic) (dir : FileId) (name : RadName) (given : Option ℕ) (file : FileId) (new : NewEntry) : Type 0 where
   pub image : new.disk.image.now ≡ I
   pub layout : new.disk.layout.now ≡ L
   pub directory : new.dir ≡ dir
   pub entry : IsEntryFor I L who dir name given file new
 
--- some Enter in this directory writes this
+-- some Enter in this directory writes this entry
 abbrev pub IsSomeEntry : List (List ℕ) → VolumeLayout → FileId → NewEntry → Type 0
 IsSomeEntry I L dir new = (who : Uic) × (name : RadName) × (given : Option ℕ) × (file : FileId) × IsEntryFor I L who dir name given file new
 
--- the blocks J, by the layout M, are what each Enter in this directory that writes this makes of the volume
+-- the blocks J, by the layout M, are the volume after each Enter in this directory that writes this entry
 abbrev pub IsEntering : List (List ℕ) → VolumeLayout → FileId → NewEntry → List (List ℕ) → VolumeLayout → Type 0
 IsEntering I L dir new J M = (who : Uic) (name : RadName) (given : Option ℕ) (file : FileId) → IsEntryFor I L who dir name given file new
     → IsStepOf I L who (Enter dir name given file) (Entered new.version) J M
 
--- each such Enter is refused so
+-- each such Enter is refused for this reason
 abbrev pub IsWhyNotEntering : List (List ℕ) → VolumeLayout → FileId → NewEntry → Refusal → Type 0
 IsWhyNotEntering I L dir new f = (who : Uic) (name : RadName) (given : Option ℕ) (file : FileId) → IsEntryFor I L who dir name given file new → IsRefusalOf I L who (Enter dir name given file) f
 
--- some Enter writes this, in the directory and on the volume that it names
+-- some Enter writes this entry, in its directory and on its volume
 abbrev pub IsOwnEntry : NewEntry → Type 0
 IsOwnEntry new = IsSomeEntry new.disk.image.now new.disk.layout.now new.dir new
 
--- the draft carries out each such Enter, and the layout stays; or it is refused so
+-- the draft carries out each such Enter, and the layout stays; or this is the refusal
 abbrev pub IsOwnEntering : NewEntry → Result Changes Refusal → Type 0
 IsOwnEntering new result = MatchResult result (λ draft. IsEntering new.disk.image.now new.disk.layout.now new.dir new (applied new.disk.image.now draft) new.disk.layout.now) (IsWhyNotEntering new.disk.image.now new.disk.layout.now new.dir new)
 
--- the draft carries out each such Enter, with these blocks for INDEXF.SYS; or it is refused so
+-- the draft carries out each such Enter, with these blocks for INDEXF.SYS; or this is the refusal
 abbrev pub IsOwnGrowing : NewEntry → Result Drafted Refusal → Type 0
 IsOwnGrowing new result = MatchResult result (λ d. IsEntering new.disk.image.now new.disk.layout.now new.dir new (applied new.disk.image.now d.draft) (with_places new.disk.layout.now d.places.items)) (IsWhyNotEntering new.disk.image.now new.disk.layout.now new.dir new)
 
--- directory n takes this block, and these numbers for its headers, for each of which INDEXF.SYS has a block
+-- directory n takes this block, and these numbers for its headers; INDEXF.SYS has a block for each number
 abbrev pub IsAllocatedFor : List (List ℕ) → VolumeLayout → ℕ → List ℕ → List ℕ → Type 0
 IsAllocatedFor I L n blocks numbers = (headers old : List ℕ) → HasHeaders I L n headers old
     → (blocks ≡ allocated_blocks I L 1) × (numbers ≡ allocated_numbers I L headers 1) × (lack_of I L headers 1 ≡ None) × (index_growth L (allocated_numbers I L headers 1) ≡ 0)

@@ -1,4 +1,4 @@
--- What is known of a file that a user may extend, and what its growth makes of the blocks.
+-- The facts about a file that a user may extend, and the blocks after its growth.
 use Rattle.std.specs.Prelude.{◌≡◌, ℕ, ◌<◌, ◌≤◌, false, List, None, Some}
 use Rattle.std.specs.FinMap as map
 use Rattle.ods_base.specs.declared.file_id.FileId.{FileId}
@@ -19,7 +19,7 @@ use Rattle.ods_state.specs.Growth.{IsGrowth}
 use Rattle.ods_look.specs.Opening.{IsFileId, file_shown}
 use Rattle.ods_change.specs.declared.growing.Growing.{Growing}
 
--- the file is plain and none of the reserved ones, and the user may extend it by so many blocks
+-- the file is plain and not a reserved file, and the user may extend it by `count` blocks
 pub record IsExtensible (I : List (List ℕ)) (L : VolumeLayout) (who : Uic) (id : FileId) (count : ℕ) : Type 0 where
   pub file : IsFileId I L id
   pub number : 5 < id.number
@@ -30,7 +30,7 @@ pub record IsExtensible (I : List (List ℕ)) (L : VolumeLayout) (who : Uic) (id
   pub there : (C : Catalogue) → ShowsBy I L C → map.get C.files id ≡ Some (file_shown I L id lbns)
   pub fine : (C : Catalogue) → ShowsBy I L C → fault_of C who (Extend id count) ≡ None
 
--- header c says of its file what header b says, with these user characteristics
+-- header c has the same fields for its file as header b, with these user characteristics
 pub record SaysWith (char : ℕ) (b c : List ℕ) : Type 0 where
   pub sequence : sequence_of c ≡ sequence_of b
   pub owner : owner_of c ≡ owner_of b
@@ -41,11 +41,11 @@ pub record SaysWith (char : ℕ) (b c : List ℕ) : Type 0 where
   pub ident : ident_of c ≡ ident_of b
   pub kind : (n : ℕ) → is_directory_header n c ≡ is_directory_header n b
 
--- the same, but that its blocks are contiguous
+-- the same fields, without the mark that its blocks are contiguous
 abbrev pub SaysGrown : List ℕ → List ℕ → Type 0
 SaysGrown b c = SaysWith (not_contiguous (user_char_of b)) b c
 
--- file n has these headers and blocks, and this is what it takes to get `count` more; INDEXF.SYS has a block for each of the numbers
+-- file n has these headers and blocks, and this is what it takes to gain `count` more; INDEXF.SYS has a block for each of the numbers
 pub record IsWanted (I : List (List ℕ)) (L : VolumeLayout) (n : ℕ) (headers old : List ℕ) (count : ℕ) (g : Growing) : Type 0 where
   pub file : IsFile I L n
   pub has : HasHeaders I L n headers old
@@ -55,7 +55,7 @@ pub record IsWanted (I : List (List ℕ)) (L : VolumeLayout) (n : ℕ) (headers 
   pub enough : lack_of I L headers count ≡ None
   pub no_growth : index_growth L (allocated_numbers I L headers count) ≡ 0
 
--- J is I with file n grown: its new blocks are zeros, its headers are as they are to be, and the first keeps all that it said but for UC.CON
+-- J is I with file n grown: its new blocks are zeros, its new headers are complete, and the first header keeps all its fields except UC.CON
 pub record IsGrownBy (I : List (List ℕ)) (L : VolumeLayout) (n : ℕ) (headers old : List ℕ) (count : ℕ) (numbers : List ℕ) (J : List (List ℕ)) : Type 0 where
   pub grown : IsGrowth I J L n headers old count numbers
   pub made : AreMade (disk I L) (disk J L) headers (allocated_numbers I L headers count)

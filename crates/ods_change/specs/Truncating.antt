@@ -1,4 +1,4 @@
--- Where a chain is cut, and what is known of a file that a user may cut.
+-- The cut of a chain, and the facts about a file that a user may cut.
 use Rattle.std.specs.Prelude.{◌≡◌, ℕ, ◌+◌, ◌-◌, ◌<◌, ◌≤◌, ◌⊎◌, false, List, [], ◌∷◌, ◌++◌, length, Option, None, Some}
 use Rattle.std.specs.FinMap as map
 use Rattle.ods_base.specs.declared.file_id.FileId.{FileId}
@@ -15,7 +15,8 @@ use Rattle.ods_state.specs.Contents.{ShowsBy}
 use Rattle.ods_look.specs.Opening.{IsFileId, file_shown}
 use Rattle.ods_change.specs.declared.truncate_file.CutPlace.{CutPlace}
 
--- The chain of file n is cut in this header, where the file keeps so many blocks: the headers before it name fewer, and it has the others that are kept, up to `left`.
+-- The chain of file n is cut in this header if the file keeps `count` blocks: the headers before it have fewer, and it has the rest of the kept
+-- blocks, `left` blocks.
 pub record IsCutPlace (I : List (List ℕ)) (L : VolumeLayout) (n count : ℕ) (place : CutPlace) : Type 0 where
   pub front : List (ℕ × List ℕ)
   pub parts : headers_of I L n ≡ front ++ (place.number, place.header.now) ∷ place.behind
@@ -24,7 +25,7 @@ pub record IsCutPlace (I : List (List ℕ)) (L : VolumeLayout) (n count : ℕ) (
   pub has : place.left ≤ length (blocks_of place.header.now)
   pub valid : IsValidHeader place.header.now place.number
 
--- the file is plain and none of the reserved ones, has so many blocks, and the user may cut it
+-- the file is plain and not a reserved file, has at least `count` blocks, and the user may cut it
 pub record IsCuttable (I : List (List ℕ)) (L : VolumeLayout) (who : Uic) (id : FileId) (count : ℕ) : Type 0 where
   pub file : IsFileId I L id
   pub number : 5 < id.number
@@ -35,7 +36,7 @@ pub record IsCuttable (I : List (List ℕ)) (L : VolumeLayout) (who : Uic) (id :
   pub there : (C : Catalogue) → ShowsBy I L C → map.get C.files id ≡ Some (file_shown I L id lbns)
   pub fine : (C : Catalogue) → ShowsBy I L C → fault_of C who (Truncate id count) ≡ None
 
--- What is noted once file n keeps so many blocks: it was noted where its chain ends, and its last header keeps some of its own blocks.
+-- The note after file n keeps `count` blocks: the end of its chain was noted, and its last header keeps some of its own blocks.
 pub record IsCutEnd (I : List (List ℕ)) (L : VolumeLayout) (n count : ℕ) (known : Option KnownEnd) (after : KnownEnd) : Type 0 where
   pub end : KnownEnd
   pub noted : known ≡ Some end

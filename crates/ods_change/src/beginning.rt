@@ -1,5 +1,5 @@
-//! The start of a request that takes blocks: where its new headers need it, INDEXF.SYS grows first, in the draft and in
-//! the layout. It may grow for files to come, too.
+//! The start of a request that takes blocks. If its new headers need it, INDEXF.SYS grows first, in the draft and in the layout. INDEXF.SYS may also
+//! grow for later files.
 ghost use Rattle.std.specs.Prelude.{◌≡◌, ◌+◌, ◌-◌, ◌≤◌, length, take, IfOk, IfErr, MatchResult, unwrap_or};
 ghost use Rattle.ods_alloc.specs.Counts.{counts_of};
 ghost use Rattle.ods_header.specs.Header.{room_of};
@@ -17,7 +17,7 @@ use ods_request::Refusal;
 use ods_space::{Disk, Draft, Layout, header_block, last_number};
 use std::alloc::Global;
 
-/// What a request that takes blocks makes: what changes of the volume, and the blocks, as LBNs, that INDEXF.SYS gets behind its own.
+/// The change of a request that takes blocks: the draft, and the LBNs of the blocks that INDEXF.SYS gains after its own.
 #[derive(Drop)]
 pub struct Drafted {
     pub draft: Draft,
@@ -27,7 +27,7 @@ pub struct Drafted {
 impl Drafted {
     ghost use Rattle.std.specs.Prelude.{◌≡◌, []};
 
-    /// What changes by this draft, where INDEXF.SYS gets no block, so that the layout stays.
+    /// Returns the change of this draft, without blocks for INDEXF.SYS. The layout is then unchanged.
     pub fn still(alloc: Global, draft: Draft) -> Drafted
         ensures draft { result.draft ≡ draft }
         ensures places { result.places.items ≡ [] }
@@ -39,8 +39,8 @@ impl Drafted {
     }
 }
 
-/// The volume where INDEXF.SYS has got so many blocks, which are the lowest free ones behind these, and these are the lowest themselves: the
-/// draft by which it gets them, and the layout then. Where it gets none, the layout is none, and the volume is as it was.
+/// Extends INDEXF.SYS by `growth` blocks: the lowest free blocks after `lowest`, which are the lowest free blocks themselves. Returns the draft of
+/// this growth, and the layout afterwards. If `growth` is 0, the layout is `None`, and the volume is unchanged.
 pub(crate) fn begin(
     alloc: Global,
     disk: &Disk<'_>,
@@ -107,8 +107,8 @@ fn headers_left(layout: &Layout) -> u32
     greatest_number(layout).saturating_sub(last_number(layout)) as u32
 }
 
-/// The draft by which INDEXF.SYS gets headers for so many files more, all at once: the lowest free blocks, behind its own. It gets no more
-/// than it may ever have, and no more than its last header has room for.
+/// Drafts headers for `count` more files in INDEXF.SYS, all at once, from the lowest free blocks. The refusal is HeadersFull if INDEXF.SYS may not
+/// have so many, or too few blocks are free. It is HeadersFull too if its last header has no room for the pointers. Otherwise it is NoMemory.
 pub fn grow_headers(
     alloc: Global,
     disk: &Disk<'_>,

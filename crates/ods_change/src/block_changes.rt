@@ -18,8 +18,8 @@ use ods_space::{Disk, Draft};
 use ods_state::KnownNames;
 use std::alloc::Global;
 
-/// The draft that puts other bytes into a block of a file, counted from 1, or why that is refused. No chain of headers changes, so what is
-/// noted of where one ends stays true.
+/// Drafts new bytes for the block of a file at `vbn`, counted from 1, or returns the refusal. No chain of headers changes, so each noted end of a
+/// chain stays true.
 pub fn write(
     alloc: Global,
     disk: &Disk<'_>,
@@ -44,7 +44,7 @@ pub fn write(
     }
 }
 
-/// The draft that puts these attributes into the first header of a file, or why that is refused.
+/// Drafts these user attributes in the first header of a file, or returns the refusal.
 pub fn set_user(
     alloc: Global,
     disk: &Disk<'_>,
@@ -69,8 +69,8 @@ pub fn set_user(
     }
 }
 
-/// The draft that empties the entry of a name in a directory, with the file and the version that it was of, or why
-/// that is refused. Of a directory that is noted it reads the blocks that may have the name.
+/// Drafts the removal of a name from a directory: its entry becomes empty. Returns the draft with the file and the version of the entry, or the
+/// refusal. In a noted directory it reads only the blocks that may have the name.
 pub fn remove<'a>(
     alloc: Global,
     disk: &Disk<'a>,

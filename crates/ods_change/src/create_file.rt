@@ -21,8 +21,8 @@ use ods_request::{Refusal, Stamp, new_ident};
 use ods_space::{Disk, Draft, sequence};
 use std::alloc::{AllocError, Global};
 
-/// The draft that makes a file of the user, with its ID, or why that is refused. The file is entered nowhere. Where more numbers are
-/// needed than are free, INDEXF.SYS grows.
+/// Drafts a new file of the user, and returns its ID, or the refusal. The file is entered in no directory. If more numbers are needed than are free,
+/// INDEXF.SYS grows.
 pub fn create(
     alloc: Global,
     disk: &Disk<'_>,

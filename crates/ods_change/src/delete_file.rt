@@ -1,4 +1,4 @@
-//! A Delete: its checks, and the draft that gives back what the file has.
+//! A Delete: its checks, and the draft that gives back the blocks and headers of the file.
 ghost use Rattle.std.specs.Prelude.{◌≡◌, ◌==◌, ◌<◌, [], ◌∷◌, ◌++◌, ℕ, List, not, IfOk, IfErr, MatchResult, None};
 ghost use Rattle.std.specs.List.{All};
 ghost use Rattle.std.specs.FinMap.{len};
@@ -19,7 +19,7 @@ use ods_request::{Refusal, Right};
 use ods_space::{ChainHeaders, Disk, Draft, push_header};
 use std::alloc::{AllocError, Global};
 
-/// The draft that deletes a file: its blocks and its numbers are given back. Or why that is refused.
+/// Drafts the deletion of a file, which gives back its blocks and its numbers, or returns the refusal.
 pub fn delete(alloc: Global, disk: &Disk<'_>, who: Uic, file: FileId) -> Result<Draft, Refusal>
     requires { on IsSoundBy disk.now }
     ensures { MatchResult result
@@ -97,15 +97,15 @@ fn without_file(
     Ok(given)
 }
 
-/// What a file gives back: the LBNs of blocks and the numbers of headers, both in order.
+/// The blocks and headers that a file gives back: the LBNs of the blocks and the numbers of the headers, both in order.
 #[derive(Drop)]
 pub(crate) struct Held {
     pub lbns: Vec<u32>,
     pub numbers: Vec<u16>,
 }
 
-/// Deletes these headers of a chain, in a new draft, and notes their numbers, and their blocks behind those that are
-/// noted already: the headers are gone along once.
+/// Deletes these headers of a chain in a new draft. Collects their numbers, and their blocks after those already collected. It traverses the chain
+/// once.
 pub(crate) fn delete_headers(
     alloc: Global,
     disk: &Disk<'_>,

@@ -1,4 +1,4 @@
-//! What requests share: drafts of one or two blocks, and the blocks of a directory with another entry or another end mark.
+//! Common drafts of requests: drafts of one or two blocks, and the blocks of a directory with another entry or another end mark.
 ghost use Rattle.std.specs.Prelude.{◌≡◌, ◌+◌, ◌*◌, ◌/◌, ◌%◌, ◌<◌, ◌≤◌, ◌∷◌, [], IfOk, length};
 ghost use Rattle.ods_base.specs.{Block.with_bytes, Image.block_at};
 ghost use Rattle.ods_header.specs.{Attributes.IsWithAttributes, Attributes.KeepsOtherFields, Header.attributes_of};
@@ -15,7 +15,7 @@ use ods_look::opening::OpenDirectory;
 use ods_space::{Disk, Draft, locate_whole};
 use std::alloc::{AllocError, Global};
 
-/// The draft that sets one block.
+/// Returns the draft that sets one block.
 pub(crate) fn one_block(alloc: Global, lbn: u32, block: Block) -> Result<Draft, AllocError>
     ensures { IfOk result (λ draft. draft ≡ (lbn, block) ∷ []) }
 {
@@ -24,7 +24,7 @@ pub(crate) fn one_block(alloc: Global, lbn: u32, block: Block) -> Result<Draft, 
     Ok(draft)
 }
 
-/// The draft that sets two blocks.
+/// Returns the draft that sets two blocks.
 pub(crate) fn two_blocks(
     alloc: Global,
     lbn: u32,
@@ -39,7 +39,7 @@ pub(crate) fn two_blocks(
     Ok(draft)
 }
 
-/// The LBN of the block of a directory where the entry at this byte stands, and that block with other bytes for the entry.
+/// Returns the LBN of the directory block with the entry at byte `at`, and that block with `bytes` for the entry.
 pub(crate) fn with_entry(
     disk: &Disk<'_>,
     number: u16,
@@ -61,7 +61,7 @@ pub(crate) fn with_entry(
     (lbn, block)
 }
 
-/// The first header of a directory with another end mark.
+/// Returns the first header of a directory with another end mark.
 pub(crate) fn marked_header(header: &Block, mark: u64, count: u32) -> Block
     requires { mark < 512 * 4294967295 }
     ensures size { length (attributes_of header.now) ≡ 32 }

@@ -1,4 +1,4 @@
-//! An Enter whose entry stands in a new block, behind those that the directory has.
+//! An Enter whose entry is stored in a new block, after the blocks of the directory.
 ghost use Rattle.std.specs.Prelude.{◌≡◌, true, IfOk};
 ghost use Rattle.ods_alloc.specs.{Counts.counts_of, Ends.IsEndOf, Extend.cut};
 ghost use Rattle.ods_base.specs.Image.{IsImage};
@@ -19,7 +19,7 @@ use ods_request::Refusal;
 use ods_space::{Disk, Draft};
 use std::alloc::{AllocError, Global};
 
-/// The draft that puts a block of zeros with an entry behind the blocks of a directory, or what the volume lacks.
+/// Drafts a new block of zeros with the entry, after the blocks of the directory, or returns what the volume lacks.
 pub(crate) fn enter_behind(
     alloc: Global,
     counts: &FreeCounts,

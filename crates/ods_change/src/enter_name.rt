@@ -18,8 +18,8 @@ use ods_space::Disk;
 use ods_state::KnownNames;
 use std::alloc::Global;
 
-/// The draft that enters a file in a directory, with the version under which it stands there, or why that is refused.
-/// Where the directory needs a block more, it is taken; and where that takes more numbers than are free, INDEXF.SYS grows.
+/// Drafts the entry of a file in a directory, and returns the version of the entry, or the refusal. If the directory needs one more block, it takes
+/// one. If this takes more numbers than are free, INDEXF.SYS grows.
 pub fn enter<'a>(
     alloc: Global,
     disk: &Disk<'a>,

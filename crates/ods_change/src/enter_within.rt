@@ -1,4 +1,4 @@
-//! An Enter whose entry stands in a block that the directory has.
+//! An Enter whose entry is stored in a block of the directory.
 ghost use Rattle.std.specs.Prelude.{◌≡◌, false};
 ghost use Rattle.ods_mount.specs.Sound.{IsSoundBy};
 ghost use Rattle.ods_change.specs.Entering.{IsOwnEntering, IsOwnEntry};
@@ -11,7 +11,7 @@ use ods_request::Refusal;
 use ods_space::Draft;
 use std::alloc::Global;
 
-/// The draft that writes an entry into the block where its slot is. The first header changes only where the end mark moves.
+/// Drafts an entry in the block of its slot. The first header changes only if the end mark moves.
 pub(crate) fn enter_within(alloc: Global, entry: &NewEntry) -> Result<Draft, Refusal>
     requires sound { on IsSoundBy entry.now.disk }
     requires entry { IsOwnEntry entry.now }

@@ -1,4 +1,4 @@
-//! What an Enter finds out before it writes: its checks, and the entry.
+//! The preparation of an Enter before it writes: its checks, and the entry.
 ghost use Rattle.std.specs.Prelude.{◌≡◌, IfSome, MatchResult};
 ghost use Rattle.ods_mount.specs.Sound.{IsSoundBy};
 ghost use Rattle.ods_request.specs.declared.requests.Request.TheVariants.{Enter};
@@ -25,8 +25,8 @@ pub struct NewEntry<'a> {
     pub bytes: [u8; 16],
 }
 
-/// The entry that an Enter writes, or the first fault of entering the name. Where the slot grows, the directory needs
-/// a block more. Of a directory that is noted it reads the blocks that may have the name or room for it.
+/// Returns the entry that an Enter writes, or the first fault. If the slot grows, the directory needs one more block. In a noted directory it reads
+/// only the blocks that may have the name or room for it.
 pub(crate) fn new_entry<'a>(
     disk: &Disk<'a>,
     who: Uic,

@@ -1,4 +1,4 @@
-//! An Extend: its checks, and the draft by which the file gets blocks of zeros behind its own.
+//! An Extend: its checks, and the draft that adds blocks of zeros after the blocks of the file.
 ghost use Rattle.std.specs.Prelude.{Some, ◌≡◌, ◌<◌, ◌==◌, ◌||◌, nat_lt, ℕ, List, IfOk, IfErr, MatchResult};
 ghost use Rattle.ods_alloc.specs.{Counts.counts_of, Ends.IsEndOf};
 ghost use Rattle.ods_base.specs.Image.{IsImage};
@@ -91,9 +91,9 @@ fn grow_file(
     Ok(grown)
 }
 
-/// The draft that puts this many blocks of zeros behind a file's own, with where its chain ends then and so the count that it has,
-/// or why that is refused. Where more numbers are needed than are free, INDEXF.SYS grows. Nothing is walked along if it is noted
-/// where the chain of this file ends.
+/// Drafts `count` more blocks of zeros after the blocks of a file. Returns the draft with the end of the file's chain afterwards, which has the count
+/// of its blocks, or the refusal. If more numbers are needed than are free, INDEXF.SYS grows. If the end of this file's chain is noted, the chain is
+/// not walked.
 pub fn extend(
     alloc: Global,
     disk: &Disk<'_>,

@@ -1,4 +1,4 @@
-//! What a file takes to grow: the lowest free blocks, and the lowest free numbers for the headers that their pointers need. Where more
+//! The blocks and numbers that a growing file takes: the lowest free blocks, and the lowest free numbers for the headers of their pointers. If more
 //! numbers are needed than are free, INDEXF.SYS grows first.
 ghost use Rattle.std.specs.Prelude.{◌≡◌, ◌<◌, ◌≤◌, ◌^◌};
 ghost use Rattle.ods_state.specs.Wants.{index_growth, new_headers};
@@ -13,15 +13,15 @@ use ods_request::Refusal;
 use ods_space::{Disk, Layout, last_number};
 use std::alloc::Global;
 
-/// What a file takes that grows: blocks, and numbers for the headers that their pointers need. All ascend. And the layout by which its
-/// request goes on, where INDEXF.SYS has a block for each of these numbers.
+/// The blocks that a growing file takes, and the numbers for the headers of their pointers, both ascending. The layout is the one for the rest of the
+/// request: in it INDEXF.SYS has a block for each of these numbers.
 #[derive(Drop)]
 pub(crate) struct Growing {
     pub blocks: Vec<u32>,
-    /// The blocks once more, as the runs that pointers say.
+    /// The same blocks as runs, as pointers store them.
     pub runs: Vec<Run>,
     pub numbers: Vec<u16>,
-    /// The layout, where it is another than that of the volume.
+    /// The layout, if it differs from the layout of the volume.
     pub layout: Option<Layout>,
 }
 
@@ -32,9 +32,8 @@ impl Growing {
     ghost use Rattle.ods_space.specs.{Disks.on, Disks.seen, Draft.applied};
     ghost use Rattle.ods_change.specs.{Beginning.IsBegun, Taking.IsAllocatedBy, Taking.IsWhyNotAllocated};
 
-    /// What a file takes that gets `count` blocks, where it has so many headers, and this room in words for pointers in the last of them. A
-    /// new file has no header, and a room of 204. With it comes what the draft is to begin with, by which INDEXF.SYS grows. Or what the volume
-    /// lacks.
+    /// Returns what a file takes to gain `count` blocks, or what the volume lacks. The file has `headers` headers, and `room` words for pointers in
+    /// the last header. A new file has no header, and a room of 204. The second result is the start of the draft, in which INDEXF.SYS grows.
     pub(crate) fn begin(
         alloc: Global,
         disk: &Disk<'_>,
@@ -83,7 +82,7 @@ impl Growing {
         Ok((growing, drafted))
     }
 
-    /// The layout by which the request goes on, where this is that of the volume.
+    /// Returns the layout for the rest of the request, if `layout` is the layout of the volume.
     pub(crate) fn layout_then<'a>(&'a self, layout: &'a Layout) -> &'a Layout
         ensures { result.now ≡ unwrap_or self.now.layout layout.now }
     {

@@ -12,7 +12,7 @@ use ods_header::{pointer_sum, room_words};
 use ods_space::{Disk, count_whole, header_block};
 use ods_state::KnownEnd;
 
-/// Where the chain of a file ends, with no walk along it where that is noted. `first` is its first header.
+/// Returns the end of a file's chain. If it is noted, the chain is not walked. `first` is the first header of the file.
 pub(crate) fn known_end<'a>(
     disk: &Disk<'a>,
     number: u16,
@@ -46,7 +46,8 @@ pub(crate) fn known_end<'a>(
     ChainEnd::of(disk, number, first)
 }
 
-/// What is noted of the end of a file's chain; where nothing is, by one walk along it. `first` is its first header.
+/// Returns the note of the end of a file's chain. If there is none, it makes one by one walk along the chain. `first` is the first header of the
+/// file.
 pub(crate) fn noted_end<'a>(
     disk: &Disk<'a>,
     number: u16,
@@ -73,7 +74,7 @@ pub(crate) fn noted_end<'a>(
     })
 }
 
-/// How many blocks a file has, with no walk along its chain where its end is noted. `first` is its first header.
+/// Returns the number of blocks of a file. If the end of its chain is noted, the chain is not walked. `first` is the first header of the file.
 pub(crate) fn known_count(
     disk: &Disk<'_>,
     number: u16,
@@ -95,7 +96,8 @@ pub(crate) fn known_count(
     count_whole(disk, number, first)
 }
 
-/// Where the chain of a file ends once it keeps so many of its blocks. It is known where the end is noted, and the last header keeps some of its own blocks.
+/// Returns the end of a file's chain after the file keeps its first `count` blocks. It is known if the end is noted, and the last header keeps some
+/// of its own blocks.
 pub(crate) fn cut_end(
     disk: &Disk<'_>,
     number: u16,
@@ -126,7 +128,7 @@ pub(crate) fn cut_end(
     None
 }
 
-/// Where the chain of this file, which ended so, ends once it has so many blocks more, and these headers behind its own.
+/// Returns the end of this file's chain after the file gains `count` blocks, and these headers after its own. `end` is the former end.
 pub(crate) fn grown_end(end: &ChainEnd<'_>, file: u16, count: u32, numbers: &[u16]) -> KnownEnd
     requires few { end.now.headers + length numbers.now ≤ 256 }
     requires small { end.now.blocks ≤ chain_blocks }

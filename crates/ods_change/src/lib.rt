@@ -1,4 +1,4 @@
-//! What requests make of a volume's blocks: each is a draft of changes, proved to carry the request out, or a true refusal.
+//! The effect of requests on a volume's blocks: each request is a draft of changes, proved to carry the request out, or a true refusal.
 #![tactic(auto)]
 
 mod beginning;

@@ -18,9 +18,9 @@ use ods_space::{ChainHeaders, Disk, Draft, header_block, push_header};
 use ods_state::KnownEnd;
 use std::alloc::{AllocError, Global};
 
-/// The draft by which a file keeps so many of its blocks, the first ones: the others are given back, with the headers
-/// behind the one that has the last of them. Or why that is refused. Where the end of the file's chain is noted, and the cut lies in its last header, no
-/// walk along the chain is made. Where the chain ends then is given too, if the cut lies there.
+/// Drafts the truncation of a file to its first `count` blocks, or returns the refusal. The other blocks are given back, with the headers after the
+/// header of the last kept block. If the end of the file's chain is noted, and the cut is in its last header, the chain is not walked. In this case
+/// the end of the chain afterwards is returned too.
 pub fn truncate(
     alloc: Global,
     disk: &Disk<'_>,

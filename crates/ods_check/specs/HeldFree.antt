@@ -1,11 +1,11 @@
--- Blocks that files hold, and that the storage bitmap says are free or that other files hold too.
+-- Blocks that files hold, and that the storage bitmap marks free or that other files also hold.
 use Rattle.std.specs.Prelude.{◌≢◌, ℕ, List}
 use Rattle.ods_space.specs.Layout.{VolumeLayout}
 use Rattle.ods_mount.specs.declared.fault.MountFault.TheVariants.{MarkedFree}
 use Rattle.ods_mount.specs.Faults.{IsTrueOf}
 use Rattle.ods_check.specs.Findings.{HasBlock}
 
--- a file with a whole chain holds LBN b, and the storage bitmap says that it is free
+-- a file with a whole chain holds LBN b, and the storage bitmap marks it free
 abbrev pub IsHeldFree : List (List ℕ) → VolumeLayout → ℕ → Type 0
 IsHeldFree I L b = (n : ℕ) × IsTrueOf I L (MarkedFree n b)
 

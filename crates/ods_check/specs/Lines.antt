@@ -1,4 +1,4 @@
--- What each line of a list of faults says.
+-- The meaning of each line in a list of faults.
 use Rattle.std.specs.Prelude.{◌≡◌, ◌≢◌, ℕ, ◌+◌, ◌<◌, ◌≤◌, ◌==◌, if◌then◌else◌, IsTrue, List, length, slice_get, Option, Some, None}
 use Rattle.std.specs.List.{Contains}
 use Rattle.ods_header.specs.Home.{IsHomeAt, IsHomePlace}
@@ -15,13 +15,13 @@ use Rattle.ods_check.specs.declared.fault_line.IndexFault.TheVariants.{TooShort,
 use Rattle.ods_check.specs.declared.fault_line.FaultLine.{FaultLine}
 use Rattle.ods_check.specs.declared.fault_line.FaultLine.TheVariants.{Plain, Shared, Index}
 
--- the fault of a line, in the mount's words
+-- the fault of a line, as the mount reports it
 abbrev pub fault_of : FaultLine → MountFault
 fault_of (Plain fault) = fault
 fault_of (Shared m n lbn count) = DoublyUsed m n lbn
 fault_of (Index why) = BadIndex
 
--- Files m and n share LBN b: both hold it, or, where m is n, it does so twice.
+-- Files m and n share LBN b: both hold it, or, if m is n, the file holds it twice.
 abbrev pub Share : List (List ℕ) → VolumeLayout → ℕ → ℕ → ℕ → Type 0
 Share I L m n b = IsTrueOf I L (DoublyUsed m n b)
 
@@ -31,7 +31,7 @@ pub record AreShared (I : List (List ℕ)) (L : VolumeLayout) (m n : ℕ) (block
   pub all : (b : ℕ) → Share I L m n b → Contains blocks b
   pub once : AreDistinct blocks
 
--- Files m and n share so many blocks, and no block that they share comes before LBN b in file m.
+-- Files m and n share `count` blocks, and LBN b is the first of them in file m.
 pub record AreSharing (I : List (List ℕ)) (L : VolumeLayout) (m n b count : ℕ) : Type 0 where
   pub shared : Share I L m n b
   pub vbn : ℕ
@@ -41,7 +41,7 @@ pub record AreSharing (I : List (List ℕ)) (L : VolumeLayout) (m n b count : �
   pub are : AreShared I L m n blocks
   pub size : count ≡ length blocks
 
--- LBN k is a place of a home block below the one in force
+-- LBN k is a location of a home block below the home block in force
 abbrev pub IsLowerPlace : List (List ℕ) → ℕ → Type 0
 IsLowerPlace I k = (lbn : ℕ) × IsHomeAt I lbn × IsHomePlace k × (k < lbn)
 
@@ -53,19 +53,19 @@ IsIndexFault I L (OtherHome lbn) = IsHomeAt I lbn × (slice_get L.index 0 ≢ So
 IsIndexFault I L (FreePlace k) = IsLowerPlace I k × IsTrue (is_free_block I L k)
 IsIndexFault I L (HeldPlace k n) = IsLowerPlace I k × (vbn : ℕ) × Holds I L n vbn k × (n ≢ 3) × (n ≢ 5) × ¬ ((n ≡ 1) × (vbn ≤ 2))
 
--- the line is true of a volume with this layout
+-- the line holds for a volume with this layout
 abbrev pub IsLineOf : List (List ℕ) → VolumeLayout → FaultLine → Type 0
 IsLineOf I L (Plain fault) = IsTrueOf I L fault
 IsLineOf I L (Shared m n lbn count) = AreSharing I L m n lbn count
 IsLineOf I L (Index why) = IsIndexFault I L why
 
--- the line is true of the image
+-- the line holds for the image
 abbrev pub LineIsTrue : List (List ℕ) → FaultLine → Type 0
 LineIsTrue I (Plain fault) = FaultIsTrue I fault
 LineIsTrue I (Shared m n lbn count) = (L : VolumeLayout) × IsLayoutOf I L × AreSharing I L m n lbn count
 LineIsTrue I (Index why) = (L : VolumeLayout) × IsLayoutOf I L × IsIndexFault I L why
 
--- the file that a fault of a mount is of: the first of two
+-- the file that a fault of a mount is about: the first of two
 abbrev pub file_in : MountFault → Option ℕ
 file_in NoHome = None
 file_in (UnsupportedMap n) = Some n
@@ -80,7 +80,7 @@ file_in (BadDirectory n) = Some n
 file_in (DuplicateName n) = Some n
 file_in NoMemory = None
 
--- the file that a line is of: the first of two
+-- the file that a line is about: the first of two
 abbrev pub first_file : FaultLine → Option ℕ
 first_file (Plain fault) = file_in fault
 first_file (Shared m n lbn count) = Some m
@@ -90,7 +90,7 @@ first_file (Index (OtherHome lbn)) = None
 first_file (Index (FreePlace k)) = None
 first_file (Index (HeldPlace k n)) = Some n
 
--- the other of two files that a line is of
+-- the other of two files that a line is about
 abbrev pub second_file : FaultLine → Option ℕ
 second_file (Plain fault) = None
 second_file (Shared m n lbn count) = if m == n then None else Some n

@@ -1,4 +1,4 @@
--- What repairs ask for: each name that names no file, and each file that no name names.
+-- The input of repairs: each name that names no file, and each file that no name names.
 use Rattle.std.specs.Prelude.{◌≡◌, ℕ, ◌<◌, List, ◌++◌, ◌⊎◌}
 use Rattle.std.specs.List.{All, Contains}
 use Rattle.ods_base.specs.declared.file_id.FileId.{FileId}
@@ -12,17 +12,17 @@ use Rattle.ods_check.specs.Lists.{AreInOrder}
 abbrev pub IsDangling : List (List ℕ) → VolumeLayout → Dangling → Type 0
 IsDangling I L x = IsNamingNone I L x.directory.number x.line × (x.directory ≡ id_at I L x.directory.number)
 
--- one comes before another: its directory has a lower number, or it comes first in the directory of both
+-- one precedes another: its directory has a lower number, or it is first in the same directory
 abbrev pub Precedes : Dangling → Dangling → Type 0
 Precedes x y = (x.directory.number < y.directory.number) ⊎ ((x.directory.number ≡ y.directory.number) × ComesBefore x.line y.line)
 
--- These are all names that name no file, each once: in the order of directories, and within one of names.
+-- These are all names that name no file, each once, sorted by directory number and then by name.
 pub record AreDangling (I : List (List ℕ)) (L : VolumeLayout) (found : List Dangling) : Type 0 where
   pub each : All (IsDangling I L) found
   pub all : (d : ℕ) (line : Listed) → IsNamingNone I L d line → Contains found (record { directory = id_at I L d; line = line })
   pub rising : AreInOrder Precedes found
 
--- The list is the old one with those of these lines behind it that name no file, each with this directory. Where the lines are in order, so are they.
+-- The list is the old one with the lines that name no file at the end, each with this directory. If the lines are in order, so are the new items.
 pub record AddsUnnamed (I : List (List ℕ)) (L : VolumeLayout) (directory : FileId) (lines : List Listed) (old new : List Dangling) : Type 0 where
   pub more : List Dangling
   pub is : new ≡ old ++ more
@@ -30,7 +30,7 @@ pub record AddsUnnamed (I : List (List ℕ)) (L : VolumeLayout) (directory : Fil
   pub all : (line : Listed) → Contains lines line → ¬ IsIdOfFile I L line.file → Contains more (record { directory = directory; line = line })
   pub rising : AreInOrder ComesBefore lines → AreInOrder (λ x y. ComesBefore x.line y.line) more
 
--- The list is the old one with those of directory d behind it, in the order of names.
+-- The list is the old one with the names of directory d that name no file at the end, in the order of names.
 pub record AddsDangling (I : List (List ℕ)) (L : VolumeLayout) (d : ℕ) (old new : List Dangling) : Type 0 where
   pub more : List Dangling
   pub is : new ≡ old ++ more
@@ -38,7 +38,7 @@ pub record AddsDangling (I : List (List ℕ)) (L : VolumeLayout) (d : ℕ) (old 
   pub all : (line : Listed) → IsNamingNone I L d line → Contains more (record { directory = id_at I L d; line = line })
   pub rising : AreInOrder (λ x y. ComesBefore x.line y.line) more
 
--- These are the IDs of all lost files, each once, rising by their numbers.
+-- These are the IDs of all lost files, each once, in ascending order of their numbers.
 pub record AreLost (I : List (List ℕ)) (L : VolumeLayout) (found : List FileId) : Type 0 where
   pub each : All (λ id. IsLostFile I L id.number × (id ≡ id_at I L id.number)) found
   pub all : (n : ℕ) → IsLostFile I L n → Contains found (id_at I L n)

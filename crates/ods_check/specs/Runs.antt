@@ -1,8 +1,8 @@
--- Runs of numbers: those in a row that are so, as many as there are.
+-- Maximal runs of consecutive numbers with a property.
 use Rattle.std.specs.Prelude.{◌≡◌, ℕ, ◌+◌, ◌-◌, ◌<◌, ◌≤◌, ◌⊎◌, List, [], ◌∷◌, ◌++◌, map, slice_get, Some}
 use Rattle.std.specs.List.{All, Contains}
 
--- Numbers first to last are so, and neither the one before them nor the one behind them.
+-- Numbers first to last have the property, and the numbers just before and just after them do not.
 pub record IsRun (Is : ℕ → Type 0) (first last : ℕ) : Type 0 where
   pub forwards : first ≤ last
   pub each : (n : ℕ) → first ≤ n → n ≤ last → Is n
@@ -17,7 +17,7 @@ IsInOne runs n = (r : ℕ × ℕ) × Contains runs r × (r.0 ≤ n) × (n ≤ r.
 abbrev pub AreRising : List (ℕ × ℕ) → Type 0
 AreRising runs = (i j : ℕ) (r s : ℕ × ℕ) → slice_get runs i ≡ Some r → slice_get runs j ≡ Some s → i < j → r.1 < s.0
 
--- The list is the old one with the lines of runs behind it, rising: of all numbers that are so.
+-- The list is the old one with the lines of runs at the end, in ascending order, which cover all numbers with the property.
 pub record AddsRuns {X : Type 0} (Is : ℕ → Type 0) (line : ℕ → ℕ → X) (old new : List X × ℕ) : Type 0 where
   pub runs : List (ℕ × ℕ)
   pub is : new ≡ (old.0 ++ map (λ r. line r.0 r.1) runs, old.1)
@@ -25,10 +25,10 @@ pub record AddsRuns {X : Type 0} (Is : ℕ → Type 0) (line : ℕ → ℕ → X
   pub all : (n : ℕ) → Is n → IsInOne runs n
   pub rising : AreRising runs
 
--- The list gets the line of numbers start to end - 1, where there are any.
+-- The list receives the line of numbers start to end - 1, if there are any.
 abbrev pub GetsRun : {X : Type 0} → (ℕ → ℕ → X) → ℕ → ℕ → List X × ℕ → List X × ℕ → Type 0
 GetsRun line start end old new = ((start ≡ end) × (new ≡ old)) ⊎ ((start < end) × (new ≡ (old.0 ++ line start (end - 1) ∷ [], old.1)))
 
--- Where number n is so, the run that begins at start goes on. Where it is not, the run ends before n, and one can begin behind n.
+-- If number n has the property, the run that begins at start continues. Otherwise the run ends before n, and the next one can begin after n.
 abbrev pub GoesOn : {X : Type 0} → (ℕ → Type 0) → (ℕ → ℕ → X) → ℕ → ℕ → List X × ℕ → List X × ℕ → ℕ → Type 0
 GoesOn Is line start n old new next = (Is n × (next ≡ start) × (new ≡ old)) ⊎ ((¬ Is n) × (next ≡ n + 1) × GetsRun line start n old new)

@@ -1,4 +1,4 @@
--- The order in which a check tells its lines: a turn for each line.
+-- The order in which a check reports its lines: a turn for each line.
 use Rattle.std.specs.Prelude.{ℕ, ◌+◌, ◌*◌}
 use Rattle.ods_mount.specs.declared.fault.MountFault.TheVariants.{BadStorageMap, BadMaster, UnsupportedMap, BadChain, OutsideVolume, MarkedFree, BadDirectory, DuplicateName}
 use Rattle.ods_check.specs.declared.fault_line.IndexFault.TheVariants.{TooShort, Misplaced, OtherHome, FreePlace, HeldPlace}
@@ -17,12 +17,12 @@ file_turn n = 20000000000 + 6 * n
 abbrev pub pair_turn : ℕ → ℕ → ℕ
 pair_turn m n = 30000000000 + 65536 * n + m
 
--- the turn behind all others
+-- the turn after all others
 abbrev pub last_turn : ℕ
 last_turn = 40000000000
 
--- The index comes first, then the volume as a whole, then each file by itself, then the pairs of files. Two lines have one turn only as blocks of one file that are marked free, or are places
--- of a home block. The last case is of lines that a check does not tell.
+-- The index is first, then the volume as a whole, then each single file, then the pairs of files. Two lines have the same turn only for blocks of
+-- one file that are marked free or are locations of a home block. The last case covers lines that a check does not report.
 abbrev pub turn_of : FaultLine → ℕ
 turn_of (Index TooShort) = 0
 turn_of (Index (Misplaced v)) = 1

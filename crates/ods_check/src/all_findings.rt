@@ -1,4 +1,4 @@
-//! What a mount does not refuse, of a volume that has a layout.
+//! The problems that do not prevent a mount, on a volume that has a layout.
 ghost use Rattle.std.specs.Prelude.{◌≡◌, ◌<◌, ℕ, List, length, IfOk};
 ghost use Rattle.std.specs.List.{All};
 ghost use Rattle.ods_space.specs.Files.{IsLayoutOf};
@@ -21,19 +21,19 @@ use crate::{Finding, Told};
 use ods_space::Disk;
 use std::alloc::{AllocError, Global};
 
-/// What a mount does not refuse, of a volume with this layout, sound or not:
+/// Returns the problems that do not prevent a mount, on a volume with this layout, sound or not:
 ///
-/// - each number in use that has no valid header, in one line those that no file may have, and each valid extension header that no
-///   file has;
+/// - each number in use that has no valid header, and each valid extension header that no file has. The numbers that no file may have are counted
+///   in one line;
 /// - each run of blocks that are marked used and that no file holds;
-/// - each name that names no file, and, where these are wanted, each file above 5 that no name names;
-/// - each file that ends past its blocks, and each directory with used entries behind its end;
-/// - each file that is marked for deletion, and each that is locked;
-/// - INDEXF.SYS, BITMAP.SYS and 000000.DIR, where the master directory does not name them.
+/// - each name that names no file, and, if `with_lost`, each file above 5 that no name names;
+/// - each file that ends past its blocks, and each directory with used entries after its end;
+/// - each file that is marked for deletion, and each locked file;
+/// - INDEXF.SYS, BITMAP.SYS and 000000.DIR, if the master directory does not name them.
 ///
-/// Each finding is so, and each thing of these kinds is found; each run of blocks once, and in order. The first ones, at most `most`,
-/// are kept. Of a file whose chain is not whole no blocks are known, and of a directory whose entries are not good and distinct no
-/// names.
+/// Each finding holds, and nothing of these kinds is missing. Each run of blocks is found once, and in order. The list keeps the first `most`
+/// findings. The blocks of a file whose chain is not whole are unknown, and so are the names of a directory whose entries are not good and
+/// distinct. An error means out of memory.
 pub fn findings(
     alloc: Global,
     disk: &Disk<'_>,
@@ -62,7 +62,7 @@ pub fn findings(
     Ok(found)
 }
 
-/// How many findings there are. None is kept.
+/// Counts the findings. Keeps none.
 pub fn count_findings(alloc: Global, disk: &Disk<'_>, with_lost: bool) -> Result<u64, AllocError>
     requires { on IsLayoutOf disk.now }
     ensures { IfOk result (λ count. (found : List Line) × (count ≡ length found) × All (on IsFound disk.now) found × on FindsAll disk.now with_lost found) }
@@ -71,7 +71,7 @@ pub fn count_findings(alloc: Global, disk: &Disk<'_>, with_lost: bool) -> Result
     Ok(found.more())
 }
 
-/// The findings that are numbers in use with no valid header, up to 65,535: those that no file may have are counted in one.
+/// Returns the findings for numbers in use without a valid header, up to 65,535. One finding counts the numbers that no file may have.
 pub fn bad_headers(alloc: Global, disk: &Disk<'_>, most: u32) -> Result<Told<Finding>, AllocError>
     ensures each { IfOk result (λ found. All (on IsFound disk.now) found.0) }
     ensures all { IfOk result (λ found. (n : ℕ) → n < 65536 → on TellsHeader disk.now n found.0) }

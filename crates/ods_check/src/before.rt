@@ -1,4 +1,4 @@
-//! What is noted of the files before one, so that only files that share blocks are compared.
+//! The facts of the earlier files, so that only files that share blocks are compared.
 ghost use Rattle.std.specs.Prelude.{IfOk};
 ghost use Rattle.ods_check.specs.Holders.{IsBefore};
 
@@ -8,19 +8,19 @@ use ods_mount::NumberSet;
 use ods_space::Disk;
 use std::alloc::{AllocError, Global};
 
-/// What is noted of the files before one.
+/// The facts of the files before one file.
 #[derive(Drop)]
 pub(crate) struct Before {
-    /// The blocks that they hold.
+    /// The blocks that these files hold.
     pub held: NumberSet,
-    /// For each block the files that hold it, as long as lines are kept.
+    /// The files that hold each block, as long as lines are kept.
     pub holders: Vec<Vec<u16>>,
-    /// A number for each block of the image, which says for which pair of files it was counted last.
+    /// A number for each block of the image: the pair of files for which it was counted last.
     pub stamps: Vec<u64>,
 }
 
 impl Before {
-    /// Before the first file nothing is noted. It takes some 32 bytes for each block of the image.
+    /// Returns the empty facts before the first file. Takes about 32 bytes for each block of the image.
     pub(crate) fn first(alloc: Global, disk: &Disk<'_>) -> Result<Before, AllocError>
         ensures { IfOk result (λ before. IsBefore disk.now.image.now disk.now.layout.now ⊥ 0 before) }
     {

@@ -1,4 +1,4 @@
-//! Files whose characteristics say that they are marked for deletion, or locked.
+//! Files whose characteristics mark them for deletion, or as locked.
 ghost use Rattle.std.specs.Prelude.{MatchBool};
 ghost use Rattle.ods_space.specs.Disks.{on};
 ghost use Rattle.ods_check.specs.Findings.{IsMarkedDeleted, IsLocked, SaysDeleted, SaysLocked};

@@ -1,4 +1,4 @@
-//! Numbers of a list that are counted, or told, once each: they get a stamp.
+//! Stamps, with which each number of a list is counted or reported only once.
 ghost use Rattle.std.specs.Prelude.{◌≡◌, ◌^◌, ◌<◌, ◌≤◌, ◌⊎◌, ℕ, List, length, slice_index, IfOk};
 ghost use Rattle.std.specs.List.{All};
 ghost use Rattle.ods_check.specs.Marks.{AreBoth, IsCounted, PutsStamp};
@@ -6,7 +6,7 @@ ghost use Rattle.ods_check.specs.Marks.{AreBoth, IsCounted, PutsStamp};
 use ods_mount::NumberSet;
 use std::alloc::{AllocError, Global};
 
-/// A zero for each block of an image that has `len`.
+/// Returns a list with a zero for each block of an image of `len` blocks.
 pub(crate) fn new_counted(alloc: Global, len: u32) -> Result<Vec<u64>, AllocError>
     ensures size { IfOk result (λ counted. length counted.items ≡ len) }
     ensures zeros { IfOk result (λ counted. (i : ℕ) → slice_index counted.items i ≡ 0) }
@@ -15,8 +15,8 @@ pub(crate) fn new_counted(alloc: Global, len: u32) -> Result<Vec<u64>, AllocErro
     Ok(counted)
 }
 
-/// How many of these numbers are in the set, each counted once. At the place of each that is counted `counted` gets `stamp`, which
-/// it has nowhere before.
+/// Counts the distinct numbers that are in the set. For each counted number, `counted` receives `stamp` at that index. No entry of `counted` has
+/// `stamp` before.
 pub(crate) fn count_of(numbers: &[u32], set: &NumberSet, counted: &mut [u64], stamp: u64) -> u32
     requires few { length numbers.now < 2 ^ 32 }
     requires inside { All (λ b. b < length counted.old) numbers.now }
@@ -44,7 +44,7 @@ fn count_one(number: u32, set: &NumberSet, counted: &mut [u64], stamp: u64) -> u
     1
 }
 
-/// Gives the number this stamp where it holds, and it has another one. Whether the number got it.
+/// Sets this stamp for the number if `holds` is true and the number has another stamp. Returns whether it set the stamp.
 pub(crate) fn put_stamp(number: u32, holds: bool, stamps: &mut [u64], stamp: u64) -> bool
     requires { number < length stamps.old }
     ensures { PutsStamp number holds stamp stamps.old result stamps.new }

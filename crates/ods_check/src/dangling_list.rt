@@ -1,4 +1,4 @@
-//! What a repair asks for: each name that names no file, with the directory that has it.
+//! The input of a repair: each name that names no file, with its directory.
 ghost use Rattle.std.specs.Prelude.{◌≡◌, ◌++◌, ◌∷◌, ◌⊎◌, [], IfOk, OnOk};
 ghost use Rattle.ods_space.specs.Files.{IsLayoutOf};
 ghost use Rattle.ods_check.specs.{Findings.IsIdOfFile, Repairs.AddsDangling, Repairs.AddsUnnamed, Repairs.AreDangling};
@@ -13,17 +13,17 @@ use ods_base::{FileId, Listed};
 use ods_space::Disk;
 use std::alloc::{AllocError, Global};
 
-/// A name that names no file, and the directory that has it.
+/// A name that names no file, and its directory.
 #[derive(Clone, Copy, Debug, PartialEq, Eq)]
 pub struct Dangling {
     /// The ID of the directory.
     pub directory: FileId,
-    /// The name with its version, and the ID that no file has.
+    /// The name with its version, and the ID that belongs to no file.
     pub line: Listed,
 }
 
 impl Dangling {
-    /// The finding that tells of it.
+    /// Returns the finding for this name.
     pub fn finding(&self) -> Finding
         ensures { result ≡ Finding.NamesNone self.now.directory.number self.now.line }
     {
@@ -31,8 +31,8 @@ impl Dangling {
     }
 }
 
-/// Each name that names no file, whether a walk reaches its directory or not: those of lower directories first. A directory whose chain is not whole, or
-/// whose entries are not good and distinct, has no names.
+/// Returns each name that names no file, sorted by directory number and then by name. It does not matter whether a walk reaches the directory. A
+/// directory whose chain is not whole, or whose entries are not good and distinct, has no names.
 pub fn find_dangling(alloc: Global, disk: &Disk<'_>) -> Result<Vec<Dangling>, AllocError>
     requires { on IsLayoutOf disk.now }
     ensures { IfOk result (λ found. on AreDangling disk.now found.items) }

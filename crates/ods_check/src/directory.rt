@@ -1,4 +1,4 @@
-//! Directories whose chains are whole, with their ends.
+//! Directories whose chains are whole, with their end marks.
 ghost use Rattle.std.specs.Prelude.{◌≡◌, ℕ, List, IfOk, IfSome, IfNone, MatchBool};
 ghost use Rattle.ods_header.specs.Header.{attributes_of};
 ghost use Rattle.ods_space.specs.Files.{HasBlocks, IsLayoutOf};
@@ -20,7 +20,7 @@ pub struct WholeDirectory {
     pub mark: u64,
 }
 
-/// The directory of this number, where it is one with a whole chain. An error is for memory.
+/// Returns the directory with this number. Returns `None` if the number is not a directory with a whole chain. An error means out of memory.
 pub fn whole_directory(
     alloc: Global,
     disk: &Disk<'_>,
@@ -43,7 +43,7 @@ pub fn whole_directory(
     Ok(Some(WholeDirectory { lbns, mark }))
 }
 
-/// The end mark of a directory that has these blocks. `attributes` are those of its header.
+/// Returns the end mark of a directory that has these blocks. `attributes` are the file attributes in its header.
 pub(crate) fn end_mark(disk: &Disk<'_>, number: u16, attributes: &[u8; 32], lbns: &[u32]) -> u64
     requires whole { on HasBlocks disk.now number lbns.now }
     requires directory { on IsDirectoryFile disk.now number }
@@ -55,7 +55,7 @@ pub(crate) fn end_mark(disk: &Disk<'_>, number: u16, attributes: &[u8; 32], lbns
     mark_of(attributes, lbns.len() as u32)
 }
 
-/// Whether this number is a directory.
+/// Returns whether this number belongs to a directory.
 pub(crate) fn is_directory(disk: &Disk<'_>, number: u16) -> bool
     ensures { MatchBool result (on IsDirectoryFile disk.now number) (¬ on IsDirectoryFile disk.now number) }
 {

@@ -14,7 +14,7 @@ use ods_mount::is_directory_file;
 use ods_space::{Disk, block_count, primary_header};
 use std::alloc::{AllocError, Global};
 
-/// Files above 2, and no directories, that end past their blocks.
+/// Files above 2 that are not directories and end past their blocks.
 #[derive(Drop)]
 pub(crate) struct PastEnds;
 

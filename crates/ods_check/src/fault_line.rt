@@ -1,20 +1,21 @@
-//! What is told of an image that is not sound, a line of text for each fault.
+//! The report on an image that is not sound, with a line of text for each fault.
 ghost use Rattle.std.specs.Prelude.{◌≡◌};
 ghost use Rattle.ods_check.specs.Lines.{fault_of, file_in as file_in_fault, first_file as first_of, second_file as second_of};
 
 use ods_mount::MountFault;
 use thiserror::Error;
 
-/// Why the index of a volume is bad. A lower home block is one in a lower place than that in force: it would be taken for it.
+/// The reason why the index of a volume is bad. A lower home block is at a lower location than the home block in force, and would be used instead
+/// of it.
 #[derive(Clone, Copy, Debug, PartialEq, Eq, Error)]
 pub enum IndexFault {
-    /// INDEXF.SYS has fewer blocks than the boot block, the home block, the index bitmap and 16 headers take.
+    /// INDEXF.SYS is shorter than the boot block, the home block, the index bitmap and 16 headers.
     #[error("INDEXF.SYS is too short")]
     TooShort,
-    /// This VBN of INDEXF.SYS is the first that is not where the index bitmap or one of the first 16 headers is.
+    /// The first VBN of INDEXF.SYS that is not at the LBN of its block of the index bitmap or its header. Only the first 16 headers are checked.
     #[error("VBN {0} of INDEXF.SYS is not where the home block says")]
     Misplaced(u32),
-    /// The home block, which is at this LBN, is neither VBN 1 nor VBN 2 of INDEXF.SYS.
+    /// The home block is at this LBN, which is neither VBN 1 nor VBN 2 of INDEXF.SYS.
     #[error("the home block, LBN {0}, is not VBN 1 or 2 of INDEXF.SYS")]
     OtherHome(u32),
     /// A lower home block could be written into this LBN, which is free.
@@ -25,23 +26,23 @@ pub enum IndexFault {
     HeldPlace(u32, u16),
 }
 
-/// A line of the list of all faults.
+/// A line in the list of all faults.
 #[derive(Clone, Copy, Debug, PartialEq, Eq, Error)]
 pub enum FaultLine {
-    /// A fault in the mount's words.
+    /// A fault as the mount reports it.
     #[error("{0}")]
     Plain(MountFault),
-    /// These two files share blocks, or one file holds blocks twice: the LBN of the first of these in the first file, and how many
-    /// these are, each counted once.
+    /// Two files that share blocks, or one file that holds blocks twice. The third number is the LBN of the first such block in the first file. The
+    /// fourth is the number of these blocks, each counted once.
     #[error("DoublyUsed {0} {1} {2} ({3} {unit})", unit = unit_of(*.3))]
     Shared(u16, u16, u32, u32),
-    /// The index is bad for this reason.
+    /// The index is bad, for this reason.
     #[error("BadIndex: {0}")]
     Index(IndexFault),
 }
 
 impl FaultLine {
-    /// The fault in the mount's words.
+    /// Returns the fault as the mount reports it.
     pub fn fault(&self) -> MountFault
         ensures { result ≡ fault_of self.now }
     {
@@ -52,7 +53,7 @@ impl FaultLine {
         }
     }
 
-    /// The file that a line is of, where it is of one: the first of two.
+    /// Returns the file that the line is about, if any; the first one of two.
     pub fn first_file(&self) -> Option<u16>
         ensures { result ≡ first_of self.now }
     {
@@ -64,7 +65,7 @@ impl FaultLine {
         }
     }
 
-    /// The other file that a line is of, where it is of two.
+    /// Returns the other file that the line is about, if it is about two.
     pub fn second_file(&self) -> Option<u16>
         ensures { result ≡ second_of self.now }
     {
@@ -75,7 +76,7 @@ impl FaultLine {
     }
 }
 
-/// The file that a fault of a mount is of, where it is of one: the first of two.
+/// Returns the file that a fault of a mount is about, if any; the first one of two.
 pub fn file_in(fault: &MountFault) -> Option<u16>
     ensures { result ≡ file_in_fault fault.now }
 {

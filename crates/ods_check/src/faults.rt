@@ -18,9 +18,9 @@ use ods_mount::{MountFault, check_image, read_layout};
 use ods_space::{Disk, Layout};
 use std::alloc::{AllocError, Global};
 
-/// What a check of an image finds: the layout, where there is one; the fault that a mount answers; and a line for each fault, of which the
-/// first 10,000 are kept. Beside them stands how many files, once these lines are full, share blocks with files before them: a pair of
-/// files has no line where the later one is among these.
+/// The result of a check: the layout, if there is one, the fault that a mount reports, and a line for each fault. The first 10,000 lines are kept.
+/// `sharing` counts the files that share blocks with earlier files and are reached after these lines are full. A pair of files has no line if the
+/// later file is among them.
 #[derive(Drop)]
 pub struct Checked {
     pub layout: Option<Layout>,
@@ -29,24 +29,24 @@ pub struct Checked {
     pub sharing: Told<u16>,
 }
 
-/// At most so many lines are kept.
+/// The greatest number of lines that are kept.
 pub const MOST_LINES: u32 = 10_000;
 
-/// Every fault of an image, and its layout where it has one. A sound image has none. Where there is no layout it is the one that a
-/// mount answers. Where there is one these are told, and each line is true and told once:
+/// Returns every fault of an image, and its layout if it has one. A sound image has no fault. An image without a layout has only the fault that a
+/// mount reports. An image with a layout has these faults, and each line is true and occurs once:
 ///
-/// - each reason why the index is bad, a storage bitmap that is too short, and no master directory;
+/// - each reason why the index is bad, a storage bitmap that is too short, and a missing master directory;
 /// - each header whose pointers have another format;
-/// - each file with no chain, or with a header of another file's;
+/// - each file with no chain, or with a header of another file;
 /// - one block for each chain that names blocks which the image lacks;
 /// - each block of a whole chain that is marked free;
-/// - each directory with a bad entry, and each with two names that are one;
-/// - each pair of files with whole chains that share blocks, with the first of these and how many they are; a file that holds blocks twice
-///   is such a pair with itself.
+/// - each directory with a bad entry, and each directory with two equal names;
+/// - each pair of files with whole chains that share blocks, with the first shared block and their number. A file that holds blocks twice is such a
+///   pair with itself.
 ///
-/// A sound image costs a mount. Any other costs a few walks over all its chains. Each file that has a block of one before it costs a walk over
-/// the chains of all files before it, and for that time four bytes for each block of the image. So the time is at most that of as many walks
-/// over all chains as lines are kept.
+/// A sound image costs a mount. Any other image costs a few walks over all its chains. Each file that shares a block with an earlier file costs a
+/// walk over the chains of all earlier files. During this walk it takes four bytes for each block of the image. So the time is at most one walk
+/// over all chains for each kept line. An error means out of memory.
 pub fn check_all(alloc: Global, image: &Image) -> Result<Checked, AllocError>
     ensures true_of { IfOk result (λ c. All (λ line. FaultIsTrue image.now (fault_of line)) c.faults.0) }
     ensures lines { IfOk result (λ c. All (LineIsTrue image.now) c.faults.0) }

@@ -1,4 +1,4 @@
-//! What a mount answers of an image, and its layout where it has one.
+//! The result of a mount of an image, and the layout of the image, if it has one.
 ghost use Rattle.std.specs.Prelude.{◌≡◌, IfOk, IfSome, IfNone, Some};
 ghost use Rattle.ods_space.specs.Files.{IsLayoutOf};
 ghost use Rattle.ods_mount.specs.Faults.{IsSound, FaultIsTrue};
@@ -8,14 +8,15 @@ use ods_mount::{MountFault, check_image, read_layout};
 use ods_space::Layout;
 use std::alloc::{AllocError, Global};
 
-/// What a mount answers: the layout, where there is one, and the fault.
+/// The result of a mount: the layout, if there is one, and the fault.
 #[derive(Drop)]
 pub struct First {
     pub layout: Option<Layout>,
     pub answer: Option<MountFault>,
 }
 
-/// What a mount answers, and the layout where there is one. It costs a mount, and for an image that is refused the reading of its layout.
+/// Returns the result of a mount, and the layout if there is one. Costs a mount, and for a refused image also a read of its layout. An error means
+/// out of memory.
 pub fn check_first(alloc: Global, image: &Image) -> Result<First, AllocError>
     ensures answer { IfOk result (λ c. IfSome c.answer (FaultIsTrue image.now) × IfNone c.answer (IsSound image.now)) }
     ensures layout { IfOk result (λ c. IfSome c.layout (IsLayoutOf image.now)) }

@@ -11,7 +11,7 @@ use ods_header::{HeaderFault, read_header};
 use ods_space::{Disk, header_block, in_use, last_number};
 use std::alloc::AllocError;
 
-/// Adds each number in use that has no valid header, and that a file may have.
+/// Adds each number in use that has no valid header and that a file may have.
 pub(crate) fn push_bad_headers(
     disk: &Disk<'_>,
     findings: &mut Told<Finding>,

@@ -1,4 +1,4 @@
-//! What a repair asks of blocks that files hold: those that the storage bitmap says are free, and those that others than one file hold.
+//! The input of a repair of blocks that files hold: held blocks that the storage bitmap marks free, and blocks that more than one file holds.
 ghost use Rattle.std.specs.Prelude.{◌≡◌, ◌*◌, ◌≤◌, ◌++◌, ◌∷◌, ◌⊎◌, ◌↔◌, [], ℕ, true, length, IfOk, MatchBool, OnOk};
 ghost use Rattle.std.specs.{List.Contains, List.Sorted.IsStrictlyIncreasing};
 ghost use Rattle.ods_space.specs.Files.{IsLayoutOf};
@@ -12,7 +12,7 @@ use ods_mount::NumberSet;
 use ods_space::{Disk, is_free};
 use std::alloc::{AllocError, Global};
 
-/// The blocks that files with whole chains hold and that the storage bitmap says are free, by their LBNs, ascending.
+/// Returns the LBNs of the blocks that files with whole chains hold and that the storage bitmap marks free, in ascending order.
 pub fn find_free_held_blocks(alloc: Global, disk: &Disk<'_>) -> Result<Vec<u32>, AllocError>
     requires { on IsLayoutOf disk.now }
     ensures all { IfOk result (λ blocks. (b : ℕ) → Contains blocks.items b ↔ on IsHeldFree disk.now b) }
@@ -51,7 +51,7 @@ fn is_free_held(disk: &Disk<'_>, held: &NumberSet, lbn: u32) -> bool
     held.contains(lbn) && is_free(disk, lbn)
 }
 
-/// The blocks that files with whole chains hold, but for those that this one alone holds.
+/// Returns the blocks that files with whole chains, other than this one, hold.
 pub fn blocks_held_besides(
     alloc: Global,
     disk: &Disk<'_>,

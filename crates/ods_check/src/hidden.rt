@@ -1,4 +1,4 @@
-//! Directories with used entries behind their end.
+//! Directories with used entries after their end.
 use crate::Finding;
 use crate::directory::whole_directory;
 use crate::numbers::file_end;
@@ -8,7 +8,7 @@ use ods_mount::FileBlocks;
 use ods_space::Disk;
 use std::alloc::{AllocError, Global};
 
-/// Directories with a whole chain, and with used entries behind their end.
+/// Directories with a whole chain and with used entries after their end.
 #[derive(Drop)]
 pub(crate) struct Hiding;
 

@@ -1,4 +1,4 @@
-//! Which files hold a block: a list for each block of an image.
+//! The files that hold each block: a list for each block of an image.
 ghost use Rattle.std.specs.Prelude.{◌≡◌, ◌*◌, ◌<◌, ◌≤◌, ℕ, Some, true, slice_get, length, OnOk, IfOk};
 ghost use Rattle.std.specs.List.{All, Contains};
 ghost use Rattle.ods_mount.specs.Tables.{has};
@@ -7,7 +7,7 @@ ghost use Rattle.ods_check.specs.Holders.{noted};
 use ods_mount::NumberSet;
 use std::alloc::{AllocError, Global};
 
-/// An empty list for each block of an image that has `len`.
+/// Returns an empty list for each block of an image of `len` blocks.
 pub(crate) fn no_holders(alloc: Global, len: u32) -> Result<Vec<Vec<u16>>, AllocError>
     ensures { IfOk result (λ lists. length lists.items ≡ len) }
 {
@@ -18,7 +18,7 @@ pub(crate) fn no_holders(alloc: Global, len: u32) -> Result<Vec<Vec<u16>>, Alloc
     Ok(lists)
 }
 
-/// Notes a file as one that holds these blocks.
+/// Notes a file as a holder of these blocks.
 pub(crate) fn note_holder(
     lists: &mut [Vec<u16>],
     lbns: &[u32],
@@ -47,7 +47,7 @@ fn add_last(list: &mut Vec<u16>, number: u16) -> Result<(), AllocError>
     Ok(())
 }
 
-/// Puts into the set each file that is noted of one of these blocks.
+/// Adds to the set each file that is noted as a holder of one of these blocks.
 pub(crate) fn insert_holders(lists: &[Vec<u16>], lbns: &[u32], files: &mut NumberSet)
     requires inside { All (λ b. b < length lists.now) lbns.now }
     requires room { 65536 ≤ 64 * length files.old }

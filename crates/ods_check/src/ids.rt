@@ -6,7 +6,7 @@ ghost use Rattle.ods_space.specs.Disks.{seen};
 use ods_base::FileId;
 use ods_space::{Disk, sequence};
 
-/// The ID of the header of this number: its number and its sequence number.
+/// Returns the ID of the header with this number: its number and its sequence number.
 pub(crate) fn id_of(disk: &Disk<'_>, number: u16) -> FileId
     ensures { result ≡ seen id_at disk.now number }
 {

@@ -1,4 +1,4 @@
-//! Each reason why the index of a volume is bad, but for places of a home block that files hold.
+//! The reasons why the index of a volume is bad, without the locations of a home block that files hold.
 ghost use Rattle.std.specs.Prelude.{◌≡◌, ℕ, OnOk};
 ghost use Rattle.std.specs.List.{Contains};
 ghost use Rattle.ods_header.specs.Home.{IsHomeAt};
@@ -14,7 +14,7 @@ use ods_mount::{first_misplaced, is_home_place, is_index_short, is_other_home};
 use ods_space::{Disk, is_free};
 use std::alloc::{AllocError, Global};
 
-/// Adds each reason why the index is bad, but for places of a home block that files hold.
+/// Adds each reason why the index is bad, without the locations of a home block that files hold.
 pub(crate) fn push_index(
     alloc: Global,
     disk: &Disk<'_>,

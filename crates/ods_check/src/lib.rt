@@ -1,4 +1,4 @@
-//! What is wrong with an image beyond the first fault.
+//! All faults of an image, and its findings.
 #![tactic(auto)]
 
 mod add;

@@ -49,7 +49,7 @@ impl Sought for LostHeaders {
     }
 }
 
-/// Whether this is a valid extension header that no file has. `reached` has the headers of all files.
+/// Returns whether this is a valid extension header that no file has. `reached` is the set of the headers of all files.
 pub(crate) fn is_lost_header(disk: &Disk<'_>, reached: &NumberSet, number: u16) -> bool
     requires { IsSetOf (λ n. (m : ℕ) × on HasAsHeader disk.now m n) reached.now }
     ensures { MatchBool result (on IsLostHeader disk.now number) (¬ on IsLostHeader disk.now number) }
@@ -63,7 +63,7 @@ pub(crate) fn is_lost_header(disk: &Disk<'_>, reached: &NumberSet, number: u16) 
     }
 }
 
-/// The headers of all files that have a chain.
+/// Returns the headers of all files that have a chain.
 pub(crate) fn reached_headers(alloc: Global, disk: &Disk<'_>) -> Result<NumberSet, AllocError>
     requires { on IsLayoutOf disk.now }
     ensures { IfOk result (IsSetOf (λ n. (m : ℕ) × on HasAsHeader disk.now m n)) }

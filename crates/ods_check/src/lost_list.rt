@@ -1,4 +1,4 @@
-//! What a repair asks for: each file above 5 that no name of any directory names.
+//! The input of a repair: each file above 5 that no directory names.
 ghost use Rattle.std.specs.Prelude.{◌≡◌, ◌++◌, ◌∷◌, ◌⊎◌, [], ℕ, IfOk, OnOk};
 ghost use Rattle.ods_space.specs.Files.{IsLayoutOf};
 ghost use Rattle.ods_check.specs.{Sets.IsSetOf, Findings.IsLostFile, Findings.NamesFile, Findings.id_at, Repairs.AreLost};
@@ -13,7 +13,7 @@ use ods_mount::NumberSet;
 use ods_space::Disk;
 use std::alloc::{AllocError, Global};
 
-/// The ID of each file above 5 that no name of any directory names, whether a walk reaches that or not, ascending.
+/// Returns the ID of each file above 5 that no directory names, in ascending order. It does not matter whether a walk reaches the directory.
 pub fn find_lost(alloc: Global, disk: &Disk<'_>) -> Result<Vec<FileId>, AllocError>
     requires { on IsLayoutOf disk.now }
     ensures { IfOk result (λ found. on AreLost disk.now found.items) }

@@ -11,7 +11,7 @@ use ods_mount::FileBlocks;
 use ods_space::Disk;
 use std::alloc::{AllocError, Global};
 
-/// The names of a directory with a whole chain and good entries. Any other number has none.
+/// Returns the names of a directory with a whole chain and good entries. Any other number has none.
 pub(crate) fn names_of(
     alloc: Global,
     disk: &Disk<'_>,

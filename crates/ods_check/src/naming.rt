@@ -17,7 +17,7 @@ use ods_mount::NumberSet;
 use ods_space::{Disk, primary_header, sequence};
 use std::alloc::{AllocError, Global};
 
-/// Adds each name that names no file, and each file above 5 that no name names, where these are wanted.
+/// Adds each name that names no file, and, if `with_lost`, each file above 5 that no name names.
 pub(crate) fn push_naming(
     alloc: Global,
     disk: &Disk<'_>,
@@ -76,7 +76,7 @@ impl Sought for LostFiles {
     }
 }
 
-/// Whether this is a file above 5 that no name names.
+/// Returns whether this is a file above 5 that no name names.
 pub(crate) fn is_lost(disk: &Disk<'_>, named: &NumberSet, number: u16) -> bool
     requires { IsSetOf (λ n. (d : ℕ) × on NamesFile disk.now d n) named.now }
     ensures { MatchBool result (on IsLostFile disk.now number) (¬ on IsLostFile disk.now number) }
@@ -90,7 +90,7 @@ pub(crate) fn is_lost(disk: &Disk<'_>, named: &NumberSet, number: u16) -> bool
     }
 }
 
-/// Adds each name of a directory that names no file, and notes the files that the others name.
+/// Adds each name of a directory that names no file, and notes the files that the other names name.
 pub(crate) fn push_names(
     alloc: Global,
     disk: &Disk<'_>,
@@ -156,7 +156,7 @@ fn push_line(
     Ok(())
 }
 
-/// Whether this is the ID of a file.
+/// Returns whether this is the ID of a file.
 pub(crate) fn is_id_of_file(disk: &Disk<'_>, file: FileId) -> bool
     ensures { MatchBool result (on IsIdOfFile disk.now file) (¬ on IsIdOfFile disk.now file) }
 {

@@ -1,4 +1,4 @@
-//! Whether the names of directories can be read.
+//! The check whether the names of directories can be read.
 ghost use Rattle.std.specs.Prelude.{IfOk, MatchBool};
 ghost use Rattle.ods_space.specs.Files.{IsLayoutOf};
 ghost use Rattle.ods_check.specs.Findings.{IsRead, AreAllRead};
@@ -11,7 +11,7 @@ use ods_mount::FileBlocks;
 use ods_space::Disk;
 use std::alloc::{AllocError, Global};
 
-/// Whether each directory has a whole chain, and neither a bad entry nor two of one name: whether all their names are read.
+/// Returns whether all names of all directories are read: each directory has a whole chain, no bad entry and no two equal names.
 pub fn are_all_read(alloc: Global, disk: &Disk<'_>) -> Result<bool, AllocError>
     requires { on IsLayoutOf disk.now }
     ensures { IfOk result (λ read. MatchBool read (on AreAllRead disk.now) (¬ on AreAllRead disk.now)) }
@@ -25,7 +25,7 @@ pub fn are_all_read(alloc: Global, disk: &Disk<'_>) -> Result<bool, AllocError>
     Ok(true)
 }
 
-/// Whether this is no directory, or one with a whole chain and with neither a bad entry nor two of one name.
+/// Returns whether this is not a directory, or is a directory with a whole chain, no bad entry and no two equal names.
 pub(crate) fn is_read(alloc: Global, disk: &Disk<'_>, number: u16) -> Result<bool, AllocError>
     requires { on IsLayoutOf disk.now }
     ensures { IfOk result (λ read. MatchBool read (on IsRead disk.now number) (¬ on IsRead disk.now number)) }

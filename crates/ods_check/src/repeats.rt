@@ -1,4 +1,4 @@
-//! Numbers that come again.
+//! Numbers that occur more than once.
 ghost use Rattle.std.specs.Prelude.{◌≡◌, ◌*◌, ◌<◌, ◌⊎◌, ℕ, Some, true, slice_get, length};
 ghost use Rattle.std.specs.List.{All};
 ghost use Rattle.ods_mount.specs.Tables.{has, IsThere};
@@ -6,7 +6,7 @@ ghost use Rattle.ods_check.specs.{Sets.IsSetOf, Lists.AreDistinct};
 
 use ods_mount::NumberSet;
 
-/// Puts all these numbers into the set. Whether none of them is there twice, or was in the set before.
+/// Adds all these numbers to the set. Returns whether they are distinct and none was in the set before.
 pub(crate) fn insert_new(numbers: &[u32], set: &mut NumberSet) -> bool
     requires { All (λ b. b < 64 * length set.old) numbers.now }
     ensures with { IsSetOf (λ b. (has set.old b ≡ true) ⊎ ((j : ℕ) × (slice_get numbers.now j ≡ Some b))) set.new }
@@ -21,7 +21,7 @@ pub(crate) fn insert_new(numbers: &[u32], set: &mut NumberSet) -> bool
     is_new
 }
 
-/// Puts all these numbers into the set `once`, and those into `twice` that were there already when they came.
+/// Adds all these numbers to the set `once`. Adds each number to `twice` that was in `once` at that time.
 pub(crate) fn insert_twice(numbers: &[u32], once: &mut NumberSet, twice: &mut NumberSet)
     requires once { All (λ b. b < 64 * length once.old) numbers.now }
     requires twice { All (λ b. b < 64 * length twice.old) numbers.now }

@@ -1,4 +1,4 @@
-//! Headers that chains of two files have.
+//! Headers that belong to the chains of two files.
 ghost use Rattle.std.specs.Prelude.{◌≡◌, ◌*◌, ◌+◌, ◌<◌, ◌≤◌, ℕ, List, length, IfOk, OnOk};
 ghost use Rattle.std.specs.List.{All};
 ghost use Rattle.ods_space.specs.{Chain.IsChain, Files.IsLayoutOf};
@@ -11,7 +11,7 @@ use ods_mount::NumberSet;
 use ods_space::{ChainFault, ChainHeaders, Disk, check_chain};
 use std::alloc::{AllocError, Global};
 
-/// The headers that chains of two files have.
+/// Returns the headers that belong to the chains of two files.
 pub(crate) fn shared_headers(alloc: Global, disk: &Disk<'_>) -> Result<NumberSet, AllocError>
     requires { on IsLayoutOf disk.now }
     ensures { IfOk result (IsSetOf (on IsOfTwo disk.now (disk.now.layout.now.home.max_files + 1))) }
@@ -48,7 +48,7 @@ fn note_headers(
     Ok(())
 }
 
-/// The headers of a file, where it has a chain.
+/// Returns the headers of a file, if it has a chain.
 pub(crate) fn header_numbers(
     alloc: Global,
     disk: &Disk<'_>,

@@ -1,4 +1,4 @@
-//! Blocks that two files share, and those that one file holds twice.
+//! Blocks that two files share, and blocks that one file holds twice.
 ghost use Rattle.std.specs.Prelude.{◌≡◌, ◌⊎◌, ◌*◌, ◌+◌, ◌<◌, ◌≤◌, ℕ, [], Some, true, false, slice_get, slice_index, length, OnOk, IfSome, IfNone};
 ghost use Rattle.std.specs.List.{All, Contains};
 ghost use Rattle.ods_space.specs.Files.{HasBlocks, IsLayoutOf};
@@ -18,10 +18,10 @@ use ods_mount::NumberSet;
 use ods_space::Disk;
 use std::alloc::{AllocError, Global};
 
-/// Adds each pair of files with whole chains that share blocks, and each such file that holds blocks twice, with the first of these
-/// and how many they are. A file is compared with those before it that are noted of one of its blocks. Once as many lines are kept as may
-/// be, none is compared any more: a file that has a block of one before it is then added to `others`. So this takes one walk over all
-/// chains, and one along the chain of a file for each line.
+/// Adds each pair of files with whole chains that share blocks, and each such file that holds blocks twice, with the first such block and their
+/// number. A file is compared with the earlier files that are noted for one of its blocks. When the kept lines are full, no file is compared. Then
+/// a file that shares a block with an earlier file is added to `others`. So this takes one walk over all chains, and one along the chain of a file
+/// for each line.
 pub(crate) fn push_shared(
     alloc: Global,
     disk: &Disk<'_>,
@@ -267,7 +267,7 @@ fn push_common(
     Ok(())
 }
 
-/// The first of these numbers that is in the set.
+/// Returns the first of these numbers that is in the set.
 pub(crate) fn first_in(numbers: &[u32], set: &NumberSet) -> Option<u32>
     ensures some { IfSome result (λ x. IsFirstIn numbers.now set.now x) }
     ensures none { IfNone result ((j x : ℕ) → slice_get numbers.now j ≡ Some x → has set.now x ≡ false) }

@@ -1,4 +1,4 @@
-//! Numbers in use that no file may have, and that have no valid header: how many there are, and the first of them.
+//! Numbers in use that no file may have and that have no valid header: their count, and the first of them.
 ghost use Rattle.std.specs.Prelude.{◌≡◌, ◌+◌, ◌<◌, ◌≤◌, MatchBool, OnOk};
 ghost use Rattle.ods_space.specs.Disks.{on};
 ghost use Rattle.ods_check.specs.{Lists.Adds, Findings.IsCountOfStrays, Findings.IsOtherFound, Findings.IsStray, Findings.TellsStrays};
@@ -16,7 +16,7 @@ struct Strays {
     first: u16,
 }
 
-/// Adds how many numbers up to 65,535 are in use that no file may have, and have no valid header, where there are any.
+/// Counts the numbers up to 65,535 that are in use, that no file may have, and that have no valid header. Adds the count, unless it is 0.
 pub(crate) fn push_strays(disk: &Disk<'_>, findings: &mut Told<Finding>) -> Result<(), AllocError>
     ensures adds { OnOk result (Adds (on IsOtherFound disk.now) findings.old findings.new) }
     ensures told { OnOk result (on TellsStrays disk.now findings.new.0) }

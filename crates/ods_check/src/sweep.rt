@@ -1,4 +1,4 @@
-//! One sweep over numbers, for all that is looked for number by number and told in a line each.
+//! A sweep over numbers that checks each number and adds a line for each match.
 ghost use Rattle.std.specs.Prelude.{ℕ, ◌<◌, OnOk};
 ghost use Rattle.ods_space.specs.Files.{IsLayoutOf};
 ghost use Rattle.ods_check.specs.Lists.{AddsEach};
@@ -9,7 +9,7 @@ use crate::add::push_if;
 use ods_space::Disk;
 use std::alloc::{AllocError, Global};
 
-/// What a sweep looks for: files, headers or blocks of one kind, by their numbers.
+/// The target of a sweep: files, headers or blocks of one kind, by their numbers.
 pub(crate) trait Sought {
     ghost use Rattle.std.specs.Prelude.{ℕ, List, ◌≡◌, ◌<◌, ◌≤◌, IfOk, MatchBool};
     ghost use Rattle.ods_space.specs.{Layout.VolumeLayout, Files.IsLayoutOf, Disks.on, Disks.seen};
@@ -17,13 +17,13 @@ pub(crate) trait Sought {
     /// A line that tells one.
     type Line: Copy;
 
-    /// No volume has one with this number or above.
+    /// No volume has a match with this number or above.
     ghost most: { ℕ };
 
-    /// What it holds is right for a volume with these blocks and this layout.
+    /// Its content fits a volume with these blocks and this layout.
     ghost fits: { Self → List (List ℕ) → VolumeLayout → Type 0 };
 
-    /// Number `n` is one.
+    /// Number `n` is a match.
     ghost is: { Self → List (List ℕ) → VolumeLayout → ℕ → Type 0 };
 
     /// The line of number `n`.
@@ -47,7 +47,7 @@ pub(crate) trait Sought {
         ensures { result ≡ seen line_of disk.now number };
 }
 
-/// Adds the line of each number that is looked for. An error is for memory.
+/// Adds the line of each match. An error means out of memory.
 pub(crate) fn push_each<S: Sought>(
     alloc: Global,
     disk: &Disk<'_>,

@@ -1,4 +1,4 @@
-//! Faults of the volume as a whole: its storage bitmap, its master directory, and headers of another format.
+//! Faults of the whole volume: its storage bitmap, its master directory, and headers of another format.
 ghost use Rattle.std.specs.Prelude.{◌+◌, OnOk, MatchBool};
 ghost use Rattle.ods_space.specs.Files.{IsLayoutOf};
 ghost use Rattle.ods_mount.specs.Faults.{IsTrueOf};
@@ -13,7 +13,7 @@ use ods_mount::{MountFault, has_other_format};
 use ods_space::{Disk, in_use, primary_header};
 use std::alloc::{AllocError, Global};
 
-/// Adds that the storage bitmap is too short, and that there is no master directory, where it is so.
+/// Adds a line if the storage bitmap is too short, and a line if there is no master directory.
 pub(crate) fn push_system(disk: &Disk<'_>, faults: &mut Told<FaultLine>) -> Result<(), AllocError>
     requires { on IsLayoutOf disk.now }
     ensures adds { OnOk result (Adds (on IsLineOf disk.now) faults.old faults.new) }
@@ -50,7 +50,7 @@ fn lacks_master(disk: &Disk<'_>) -> bool
     }
 }
 
-/// Headers that are left aside for the format of their pointers alone.
+/// Headers that are skipped only because of the format of their pointers.
 #[derive(Drop)]
 pub(crate) struct LeftAside;
 

@@ -1,12 +1,12 @@
-//! Lines of which the first ones are kept, and the others counted.
+//! Lines of which the first ones are kept and the others are counted.
 ghost use Rattle.std.specs.Prelude.{◌≡◌, ◌-◌, ◌≤◌, ◌++◌, ◌∷◌, [], length, take, OnOk, MatchBool};
 
 use crate::whole::Whole;
 use std::alloc::{AllocError, Global};
 use std::marker::Model;
 
-/// Lines of which the first ones are kept, and the others counted. Clauses see all of them in order, kept or not, and at most how many
-/// are kept.
+/// Lines of which the first ones are kept and the others are counted. Clauses see all lines in order, kept or not, and the greatest number of kept
+/// ones.
 #[derive(Drop)]
 pub struct Told<T> {
     kept: Vec<T>,
@@ -27,7 +27,7 @@ impl<T> Model for Told<T> {
 }
 
 impl<T: Copy> Told<T> {
-    /// No lines, of which at most so many are kept.
+    /// Returns an empty list that keeps at most `most` lines.
     pub(crate) fn new(alloc: Global, most: u32) -> Told<T>
         ensures { result ≡ ([], most) }
     {
@@ -39,7 +39,7 @@ impl<T: Copy> Told<T> {
         }
     }
 
-    /// Adds a line: it is kept where there are not yet as many as may be kept, else counted. An error is for memory.
+    /// Adds a line. Keeps it if fewer lines are kept than may be, otherwise counts it. An error means out of memory.
     pub(crate) fn push(&mut self, one: T) -> Result<(), AllocError>
         ensures { OnOk result (self.new ≡ (self.old.0 ++ one ∷ [], self.old.1)) }
     {
@@ -55,21 +55,21 @@ impl<T: Copy> Told<T> {
         Ok(())
     }
 
-    /// The lines that are kept.
+    /// Returns the kept lines.
     pub fn kept_lines(&self) -> &[T]
         ensures { result.now ≡ take self.now.1 self.now.0 }
     {
         self.kept.as_slice()
     }
 
-    /// How many lines are left out.
+    /// Returns the number of lines that are not kept.
     pub fn more(&self) -> u64
         ensures { result ≡ length self.now.0 - self.now.1 }
     {
         self.more
     }
 
-    /// Whether as many lines are kept as may be.
+    /// Returns whether the list holds as many lines as it may keep.
     pub(crate) fn is_full(&self) -> bool
         ensures { MatchBool result (self.now.1 ≤ length self.now.0) (¬ (self.now.1 ≤ length self.now.0)) }
     {

@@ -1,4 +1,4 @@
-//! Blocks that are marked used, and that no file holds.
+//! Blocks that are marked used and that no file holds.
 ghost use Rattle.std.specs.Prelude.{◌≡◌, ◌⊎◌, ◌*◌, ◌<◌, ◌≤◌, ℕ, true, Some, slice_get, length, MatchBool, IfOk, OnOk};
 ghost use Rattle.std.specs.List.{All};
 ghost use Rattle.ods_space.specs.Files.{IsLayoutOf};
@@ -12,7 +12,8 @@ use ods_mount::{NumberSet, is_home_place};
 use ods_space::{Disk, is_free};
 use std::alloc::{AllocError, Global};
 
-/// Whether the block is marked used, no file holds it, and it is no place of a home block. `held` has what files hold.
+/// Returns whether the block is marked used, no file holds it, and it is not a location of a home block. `held` is the set of blocks that files
+/// hold.
 pub(crate) fn is_unheld(disk: &Disk<'_>, held: &NumberSet, lbn: u32) -> bool
     requires { IsSetOf (λ b. (m : ℕ) × on HasBlock disk.now m b) held.now }
     ensures { MatchBool result (on IsHeldByNone disk.now lbn) (¬ on IsHeldByNone disk.now lbn) }
@@ -31,7 +32,7 @@ fn is_marked_used(disk: &Disk<'_>, lbn: u32) -> bool
     lbn < disk.image.len() && is_covered && !is_free(disk, lbn)
 }
 
-/// The blocks that files with whole chains hold.
+/// Returns the blocks that files with whole chains hold.
 pub(crate) fn held_blocks(alloc: Global, disk: &Disk<'_>) -> Result<NumberSet, AllocError>
     requires { on IsLayoutOf disk.now }
     ensures { IfOk result (IsSetOf (λ b. (m : ℕ) × on HasBlock disk.now m b)) }
@@ -43,7 +44,7 @@ pub(crate) fn held_blocks(alloc: Global, disk: &Disk<'_>) -> Result<NumberSet, A
     Ok(held)
 }
 
-/// Notes the blocks of a file, where it has a whole chain.
+/// Notes the blocks of a file, if it has a whole chain.
 pub(crate) fn note_blocks(
     alloc: Global,
     disk: &Disk<'_>,
@@ -62,7 +63,7 @@ pub(crate) fn note_blocks(
     Ok(())
 }
 
-/// Puts all these numbers into the set.
+/// Adds all these numbers to the set.
 pub(crate) fn insert_all(numbers: &[u32], set: &mut NumberSet)
     requires { All (λ b. b < 64 * length set.old) numbers.now }
     ensures with { IsSetOf (λ b. (has set.old b ≡ true) ⊎ ((j : ℕ) × (slice_get numbers.now j ≡ Some b))) set.new }

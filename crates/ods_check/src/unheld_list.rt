@@ -1,4 +1,4 @@
-//! What a repair asks for: the blocks that no file holds, with their runs as findings, and the first header of which the blocks are not known.
+//! The input of a repair: the blocks that no file holds, with their runs as findings, and the first header whose blocks are unknown.
 ghost use Rattle.std.specs.Prelude.{◌≡◌, ◌<◌, ◌↔◌, ◌++◌, ◌∷◌, ◌⊎◌, [], ℕ, IfNone, IfOk, IfSome, MatchBool, OnOk};
 ghost use Rattle.std.specs.List.{Contains};
 ghost use Rattle.ods_space.specs.Files.{IsLayoutOf};
@@ -17,7 +17,7 @@ use ods_mount::NumberSet;
 use ods_space::{Disk, header_block, in_use};
 use std::alloc::{AllocError, Global};
 
-/// The blocks that are marked used, that no file holds, and that are no places of a home block, by their LBNs, ascending.
+/// Returns the LBNs of the blocks that are marked used, that no file holds, and that are not locations of a home block, in ascending order.
 pub fn find_unheld_blocks(alloc: Global, disk: &Disk<'_>) -> Result<Vec<u32>, AllocError>
     requires { on IsLayoutOf disk.now }
     ensures { IfOk result (λ blocks. (b : ℕ) → Contains blocks.items b ↔ on IsHeldByNone disk.now b) }
@@ -47,7 +47,7 @@ fn push_if_unheld(
     Ok(())
 }
 
-/// The runs of these blocks as findings, rising. The first ones, at most `most`, are kept.
+/// Returns the runs of these blocks as findings, in ascending order. Keeps the first `most` findings.
 pub fn find_unheld_runs(
     alloc: Global,
     disk: &Disk<'_>,
@@ -62,7 +62,7 @@ pub fn find_unheld_runs(
     Ok(found)
 }
 
-/// The first number in use that has no valid header, of all numbers up to 65,535.
+/// Returns the first number in use that has no valid header, up to 65,535.
 pub fn find_missing_header(disk: &Disk<'_>) -> Option<u16>
     ensures some { IfSome result (on LacksHeader disk.now) }
     ensures none { IfNone result ((n : ℕ) → n < 65536 → ¬ on LacksHeader disk.now n) }
@@ -88,7 +88,7 @@ fn lacks_header(disk: &Disk<'_>, number: u16) -> bool
     }
 }
 
-/// The first valid extension header that no file reaches.
+/// Returns the ID of the first valid extension header that no file reaches.
 pub fn find_lost_header(alloc: Global, disk: &Disk<'_>) -> Result<Option<FileId>, AllocError>
     requires { on IsLayoutOf disk.now }
     ensures some { IfOk result (λ found. IfSome found (λ id. on IsLostHeader disk.now id.number × (id ≡ seen id_at disk.now id.number))) }

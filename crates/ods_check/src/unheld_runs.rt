@@ -1,4 +1,4 @@
-//! Runs of blocks that are marked used, and that no file holds.
+//! Runs of blocks that are marked used and that no file holds.
 ghost use Rattle.std.specs.Prelude.{◌≡◌, ◌<◌, ◌≤◌, ℕ, OnOk, IfOk};
 ghost use Rattle.ods_space.specs.Disks.{on};
 ghost use Rattle.ods_check.specs.{Sets.IsSetOf, Runs.AddsRuns, Runs.GetsRun, Runs.GoesOn, Findings.HasBlock, Findings.IsHeldByNone, Findings.unheld_line as line_of_run};
@@ -9,8 +9,8 @@ use ods_mount::NumberSet;
 use ods_space::Disk;
 use std::alloc::AllocError;
 
-/// Adds the runs of blocks that are marked used, that no file holds, and that are no places of a home block. `held` has what files
-/// hold.
+/// Adds the runs of blocks that are marked used, that no file holds, and that are not locations of a home block. `held` is the set of blocks that
+/// files hold.
 pub(crate) fn push_unheld(
     disk: &Disk<'_>,
     held: &NumberSet,

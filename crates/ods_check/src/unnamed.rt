@@ -1,4 +1,4 @@
-//! INDEXF.SYS, BITMAP.SYS and 000000.DIR, where the master directory does not name them.
+//! INDEXF.SYS, BITMAP.SYS and 000000.DIR, if the master directory does not name them.
 ghost use Rattle.std.specs.Prelude.{◌≡◌, ◌++◌, ◌∷◌, [], MatchBool, IfOk};
 ghost use Rattle.std.specs.List.{Contains};
 ghost use Rattle.ods_base.specs.declared.listed.Listed.{Listed as Line};
@@ -16,7 +16,7 @@ use std::alloc::{AllocError, Global};
 /// The number of the master directory.
 const MASTER: u16 = 4;
 
-/// Files of the system that the master directory does not name.
+/// System files that the master directory does not name.
 #[derive(Drop)]
 pub(crate) struct Unnamed {
     /// Whether all names of the master directory are read.
@@ -53,7 +53,7 @@ impl Sought for Unnamed {
     }
 }
 
-/// What the master directory names.
+/// Returns the lines of the master directory, and whether all its names are read.
 pub(crate) fn master_names(alloc: Global, disk: &Disk<'_>) -> Result<Unnamed, AllocError>
     requires { on IsLayoutOf disk.now }
     ensures read { IfOk result (λ s. MatchBool s.read (on IsRead disk.now 4) (¬ on IsRead disk.now 4)) }

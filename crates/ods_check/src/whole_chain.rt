@@ -6,7 +6,7 @@ ghost use Rattle.ods_space.specs.Disks.{on};
 use ods_space::{ChainFault, Disk, chain};
 use std::alloc::{AllocError, Global};
 
-/// The blocks of a file, where it is one with a whole chain. An error is for memory.
+/// Returns the blocks of a file. Returns `None` if its chain is not whole. An error means out of memory.
 pub(crate) fn whole_chain(
     alloc: Global,
     disk: &Disk<'_>,

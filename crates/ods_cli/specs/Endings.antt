@@ -3,7 +3,7 @@ use Rattle.std.specs.Prelude.{ℕ, Bool, true, false, List, codes, Option, Some,
 use Rattle.ods_cli.specs.declared.fault.ServeFault.{ServeFault}
 use Rattle.ods_cli.specs.declared.fault.ServeFault.TheVariants.{Refused, Read, Write, WriteOut, NoMemory, NoThread, Unmatched}
 
--- 1 for a refusal, 3 for a device, memory or a thread that failed, 4 where the list is not that of the sessions
+-- 1 for a refusal, 3 if a device, memory or a thread failed, 4 if the list does not consist of the sessions' calls
 abbrev pub fault_status : ServeFault → ℕ
 fault_status (Refused number) = 1
 fault_status Read = 3
@@ -13,13 +13,13 @@ fault_status NoMemory = 3
 fault_status NoThread = 3
 fault_status Unmatched = 4
 
--- 0 for the reply that was asked for, 1 for a refusal, else that of the fault
+-- 0 for the requested reply, 1 for a refusal, otherwise the status of the fault
 abbrev pub status_of : Result Bool ServeFault → ℕ
 status_of (Ok true) = 0
 status_of (Ok false) = 1
 status_of (Err fault) = fault_status fault
 
--- what is said on standard error of a run that fails; nothing of a refusal, whose line stands among the replies
+-- the line on standard error of a run that fails; a refusal has none, as its line is among the replies
 abbrev pub line_of : ServeFault → Option (List ℕ)
 line_of (Refused number) = None
 line_of Read = Some (codes "f11: reading failed")

@@ -1,4 +1,4 @@
--- What is replied when one header of an image is asked for: its line, or why there is none.
+-- The reply to a request for one header of an image: its line, or why there is none.
 use Rattle.std.specs.Prelude.{◌≡◌, ℕ, Bool, true, false, ◌⊎◌, List, [], ◌∷◌, ◌++◌, codes}
 use Rattle.ods_header.specs.declared.home.Home.{Home}
 use Rattle.ods_header.specs.declared.header.HeaderFault.{HeaderFault}
@@ -9,12 +9,12 @@ use Rattle.ods_header.specs.Refusals.{header_row}
 use Rattle.ods_header.specs.Text.{header_text}
 use Rattle.ods_cli.specs.Reply.{refusal_line}
 
--- the image has no home block, and this is the line that says so
+-- the image has no home block, and this is the line of that refusal
 pub record IsNoHomeLine (I : List (List ℕ)) (reply : List ℕ) : Type 0 where
   pub reason : HasNoHome I
   pub line : reply ≡ refusal_line 15 (codes "NoHome")
 
--- the block at the place of header n is no header n, and this is the line with its first fault
+-- the block at the LBN of header n is not a valid header n, and this is the line with its first fault
 pub record IsNoHeaderLine (I : List (List ℕ)) (n : ℕ) (reply : List ℕ) : Type 0 where
   pub home : Home
   pub fault : HeaderFault
@@ -22,7 +22,7 @@ pub record IsNoHeaderLine (I : List (List ℕ)) (n : ℕ) (reply : List ℕ) : T
   pub reason : IsFirstFault (line_block I home n) n fault
   pub line : reply ≡ refusal_line (header_row fault).0 (header_row fault).1
 
--- the block at the place of header n is a valid header n, and this is its line
+-- the block at the LBN of header n is a valid header n, and this is its line
 pub record IsHeaderLine (I : List (List ℕ)) (n : ℕ) (reply : List ℕ) : Type 0 where
   pub home : Home
   pub home_is : IsHomeOf I home

@@ -1,4 +1,4 @@
--- The lines about an image: what is free in it, or a fault of it.
+-- The lines about an image: its free blocks and file numbers, or a fault of it.
 use Rattle.std.specs.Prelude.{ℕ, List, [], ◌∷◌, ◌++◌, codes}
 use Rattle.std.specs.Fmt.{decimal}
 use Rattle.ods_mount.specs.declared.fault.MountFault.{MountFault}
@@ -6,11 +6,11 @@ use Rattle.ods_mount.specs.declared.fault.MountFault.TheVariants as mount
 use Rattle.ods_mount.specs.Refusals.{mount_row}
 use Rattle.ods_cli.specs.Reply.{refusal_line}
 
--- the two lines about a sound image: so many blocks are free, and so many file numbers
+-- the two lines about a sound image: the number of free blocks, and of free file numbers
 abbrev pub count_lines : ℕ → ℕ → List ℕ
 count_lines blocks numbers = codes "free " ++ decimal blocks ++ 10 ∷ codes "numbers " ++ decimal numbers ++ 10 ∷ []
 
--- what a fault carries, in decimal, each behind a space: numbers of files, and then the LBN of a block
+-- the parameters of a fault, in decimal, each after a space: numbers of files, and then the LBN of a block
 abbrev pub carried_text : MountFault → List ℕ
 carried_text mount.NoHome = []
 carried_text (mount.UnsupportedMap file) = 32 ∷ decimal file

@@ -1,4 +1,4 @@
--- What sessions that print their replies give back, and which of it is written.
+-- The results of sessions that print their replies, and the part of them that is written.
 use Rattle.std.specs.Prelude.{ℕ, ◌+◌, List, [], ◌∷◌, ◌++◌, codes, map}
 use Rattle.std.specs.Fmt.{decimal}
 use Rattle.std.specs.String.{string_bytes}
@@ -28,6 +28,6 @@ abbrev pub printed_text : ℕ → List Printed → List ℕ
 printed_text k [] = []
 printed_text k (p ∷ ps) = printed_session k p ++ printed_text (k + 1) ps
 
--- what is written of a run: what its sessions printed, and the totals
+-- the text that a run writes: the replies of its sessions, and the totals
 abbrev pub said_text : Said → List ℕ
 said_text s = printed_text 1 s.printed.items ++ string_bytes s.totals

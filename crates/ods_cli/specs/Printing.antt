@@ -1,4 +1,4 @@
--- What is printed of sessions that print their replies themselves.
+-- The text of sessions that print their replies themselves.
 use Rattle.std.specs.Prelude.{◌≡◌, List, length}
 use Rattle.std.specs.String.{string_bytes}
 use Rattle.ods_ask.specs.declared.outcome.Reply.{Reply}

@@ -1,4 +1,4 @@
--- What is replied to a reader whose bytes are to be an image.
+-- The reply to a reader whose bytes are to be an image.
 use Rattle.std.specs.Prelude.{◌≡◌, ℕ, ◌+◌, ◌≤◌, ◌^◌, Bool, false, ◌⊎◌, List, length, Option}
 use Rattle.std.specs.Io.KnownBytes.{IsAtEnd}
 use Rattle.ods_base.specs.Image.{IsImage, IsNoReading, image_bytes}
@@ -9,20 +9,20 @@ pub use Rattle.ods_script.specs.Texts.{refusal_line}
 use Rattle.ods_cli.specs.declared.fault.ServeFault.{ServeFault}
 use Rattle.ods_cli.specs.declared.fault.ServeFault.TheVariants.{Refused, Read, Write, WriteOut, NoMemory, NoThread, Unmatched}
 
--- the refusals of bytes that are no image; a device's fault and want of memory are none
+-- the refusals of bytes that are not an image; a device's fault and out of memory are not refusals
 abbrev pub IsRefusal : ImageError → Type 0
 IsRefusal image.NotWholeBlocks = Unit {0}
 IsRefusal image.TooBig = Unit {0}
 IsRefusal image.ReadFailed = ⊥
 IsRefusal image.NoMemory = ⊥
 
--- all bytes that a reader had, of which `rest` is left, are those of an image
+-- all bytes that a reader had, with `rest` left, are the bytes of an image
 pub record AreImageBytes (bytes : List ℕ) (rest : Option (List ℕ)) (I : List (List ℕ)) : Type 0 where
   pub image : IsImage I
   pub bytes_are : image_bytes I ≡ bytes
   pub at_end : IsAtEnd rest
 
--- the bytes spell no image, and this is the number of a refusal that is true of them, with its line
+-- the bytes are not an image, and this is the number of a refusal that holds for them, with its line
 pub record AreNoImage (bytes : List ℕ) (rest : Option (List ℕ)) (number : ℕ) (line : List ℕ) : Type 0 where
   pub refusal : ImageError
   pub is_refusal : IsRefusal refusal
@@ -30,14 +30,14 @@ pub record AreNoImage (bytes : List ℕ) (rest : Option (List ℕ)) (number : �
   pub number_is : number ≡ (image_row refusal).0
   pub line_is : line ≡ refusal_line (image_row refusal).0 (image_row refusal).1
 
--- The reply to what a reader gave: the bytes are no image, or it is a reply about their image, as `About` says of an image, of whether
--- the reply says what was asked for, and of its text.
+-- The reply to the bytes of a reader. The bytes are not an image, or it is a reply about their image. `About` relates an image, whether the reply has
+-- the requested result, and its text.
 abbrev pub IsReply : (List (List ℕ) → Bool → List ℕ → Type 0) → List ℕ → Option (List ℕ) → Bool → List ℕ → Type 0
 IsReply About bytes rest found reply =
     ((found ≡ false) × (number : ℕ) × AreNoImage bytes rest number reply)
     ⊎ ((I : List (List ℕ)) × AreImageBytes bytes rest I × About I found reply)
 
--- why there is no reply to a reader that gave these bytes: a device may fail, and memory run out, at any moment
+-- why there is no reply to a reader of these bytes: a device may fail, and memory run out, at any moment
 abbrev pub IsReplyFault : List ℕ → ServeFault → Type 0
 IsReplyFault bytes Read = length bytes ≤ 2 ^ 29
 IsReplyFault bytes Write = ⊥

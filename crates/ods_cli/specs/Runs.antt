@@ -1,4 +1,4 @@
--- What the words of the command line may ask for.
+-- The values that the words of the command line may request.
 use Rattle.std.specs.Prelude.{ℕ, ◌≤◌}
 use Rattle.ods_cli.specs.declared.runs.Run.{Run}
 use Rattle.ods_cli.specs.declared.runs.Run.TheVariants.{SampleHeader, ImageHeader, Input, Scripts}
@@ -7,11 +7,11 @@ use Rattle.ods_cli.specs.declared.runs.Run.TheVariants.{SampleHeader, ImageHeade
 abbrev pub IsHeaderNumber : ℕ → Type 0
 IsHeaderNumber n = (1 ≤ n) × (n ≤ 16)
 
--- how many requests a run can accept at most: 1 to 65,536
+-- the limits that a run can have: 1 to 65,536 accepted requests
 abbrev pub IsLimit : ℕ → Type 0
 IsLimit n = (1 ≤ n) × (n ≤ 65536)
 
--- a run that prints a header asks for one that can be printed
+-- a run that prints a header has a number that can be printed
 abbrev pub AsksForOne : Run → Type 0
 AsksForOne (SampleHeader number) = IsHeaderNumber number
 AsksForOne (ImageHeader path number) = IsHeaderNumber number

@@ -1,4 +1,4 @@
--- How a run that serves scripts ends: what was read, what went out, and which list of requests stands behind it.
+-- The end of a run that serves scripts: the bytes that were read and written, and the list of requests that produced them.
 use Rattle.std.specs.Prelude.{◌≡◌, ℕ, ◌⊎◌, List, [], ◌∷◌, ◌++◌, length, map, codes, Option, None, Some, Result, Ok, Err}
 use Rattle.std.specs.Fmt.{decimal}
 use Rattle.std.specs.Io.KnownBytes.{Appends, Keeps}
@@ -30,10 +30,10 @@ calls_in os = map (λ (o : Outcome). o.calls) os
 abbrev pub totals_text : ℕ → ℕ → ℕ → List ℕ
 totals_text entries blocks numbers = codes "list " ++ decimal entries ++ 10 ∷ count_lines blocks numbers
 
--- The image I was served: there is a list of accepted requests that leads from it to the image J. Its entries are just the calls of the
--- scripts, each session's in the order of its script, with the answers that were replied. Each session began with a viewer that had seen
--- nothing, and each refusal is one of a volume over I. A reply says that the list is full only where the list has as many entries as the limit. The
--- report has the list's numbers, and the text has the replies and the totals. With no script J is I.
+-- The image I was served: a list of accepted requests turns it into the image J. Its entries are exactly the calls of the scripts, each session's in
+-- the order of its script, with the answers of the replies. Each session began with a viewer that had seen nothing, and each refusal is a refusal of
+-- a volume over I. The reply that the list is full comes only if the list has as many entries as the limit. The report has the list's numbers, and
+-- the text has the replies and the totals. Without a script J is I.
 pub record IsServedTo (stamp : List ℕ) (scripts : List Script) (limit : ℕ) (I J : List (List ℕ)) (r : Report) (text : List ℕ) : Type 0 where
   pub entries : List Entry
   pub layout : VolumeLayout
@@ -50,38 +50,38 @@ pub record IsServedTo (stamp : List ℕ) (scripts : List Script) (limit : ℕ) (
 abbrev pub IsSoundImage : List (List ℕ) → Type 0
 IsSoundImage I = (L : VolumeLayout) × IsSoundBy I L
 
--- the bytes that were read spell a sound image
+-- the bytes that were read are a sound image
 pub record AreSound (bytes : List ℕ) (rest : Option (List ℕ)) (I : List (List ℕ)) : Type 0 where
   pub read : AreImageBytes bytes rest I
   pub sound : IsSoundImage I
 
--- the bytes spell a sound image, which was served
+-- the bytes are a sound image, which was served
 pub record IsRun (stamp : List ℕ) (scripts : List Script) (limit : ℕ) (bytes : List ℕ) (rest : Option (List ℕ)) (J : List (List ℕ)) (r : Report) (text : List ℕ) : Type 0 where
   pub image : List (List ℕ)
   pub sound : AreSound bytes rest image
   pub served : IsServedTo stamp scripts limit image J r text
 
--- a fault is true of the image, and this is its number, with its line
+-- a fault holds for the image, and this is its number, with its line
 pub record IsFaultOf (I : List (List ℕ)) (number : ℕ) (line : List ℕ) : Type 0 where
   pub fault : MountFault
   pub reason : FaultIsTrue I fault
   pub number_is : number ≡ (mount_row fault).0
   pub line_is : line ≡ fault_line fault
 
--- the bytes spell an image that has a fault with this number and this line
+-- the bytes are an image that has a fault with this number and this line
 abbrev pub AreUnsound : List ℕ → Option (List ℕ) → ℕ → List ℕ → Type 0
 AreUnsound bytes rest number line = (I : List (List ℕ)) × AreImageBytes bytes rest I × IsFaultOf I number line
 
--- the bytes spell no sound image, and this is the number of a fault that is true of them, with its line
+-- the bytes are not a sound image, and this is the number of a fault that holds for them, with its line
 abbrev pub AreRefused : List ℕ → Option (List ℕ) → ℕ → List ℕ → Type 0
 AreRefused bytes rest number line = AreNoImage bytes rest number line ⊎ AreUnsound bytes rest number line
 
--- what a writer had and has, where its bytes are known
+-- the contents of a writer before and after, if they are known
 pub record Wrote : Type 0 where
   pub old : Option (List ℕ)
   pub new : Option (List ℕ)
 
--- how a run ends that writes the line of a refusal with this number: with the number, where all of it is written
+-- the end of a run that writes the line of a refusal with this number: the fault is Refused with the number, if the whole line is written
 abbrev pub IsRefusedWith : ℕ → List ℕ → Wrote → ServeFault → Type 0
 IsRefusedWith number line replies (Refused n) = (n ≡ number) × Appends replies.old replies.new line
 IsRefusedWith number line replies Write = (count : ℕ) × TookBytes replies.old replies.new line count
@@ -91,7 +91,7 @@ IsRefusedWith number line replies NoMemory = ⊥
 IsRefusedWith number line replies NoThread = ⊥
 IsRefusedWith number line replies Unmatched = ⊥
 
--- why a volume's list is not said, where these are the calls: it is not settled by them
+-- why there is no report of a volume's list with these calls: it is not settled by them, or out of memory
 abbrev pub IsReportFault : State → List Calls → ServeFault → Type 0
 IsReportFault v lists Unmatched = ¬ IsSettled v.mounted v lists
 IsReportFault v lists NoMemory = Unit {0}
@@ -112,7 +112,7 @@ pub record IsUnmatched (stamp : List ℕ) (scripts : List Script) (I : List (Lis
   pub each : EachOutcome I stamp (all_saw []) (length volume.entries ≡ limit) scripts outcomes
   pub wrong : IsReportFault volume (calls_in outcomes) Unmatched
 
--- why the sound image I is not served to the end: memory, threads, or a list that is not the sessions'
+-- why the sound image I is not served to the end: memory, threads, or a list that does not consist of the sessions' calls
 abbrev pub IsServingFault : List ℕ → List Script → List (List ℕ) → ℕ → ServeFault → Type 0
 IsServingFault stamp scripts I limit NoMemory = Unit {0}
 IsServingFault stamp scripts I limit NoThread = Unit {0}
@@ -122,7 +122,7 @@ IsServingFault stamp scripts I limit Read = ⊥
 IsServingFault stamp scripts I limit Write = ⊥
 IsServingFault stamp scripts I limit (WriteOut fault) = ⊥
 
--- what a writer wrote that may be there, by what is known of its bytes before and after
+-- the contents of an optional writer before and after
 abbrev pub wrote : {W : Type 0} → (W → Option (List ℕ)) → Option W → Option W → Option Wrote
 wrote contents None after = None
 wrote contents (Some w) None = None
@@ -138,12 +138,12 @@ abbrev pub GotAll : Option Wrote → List ℕ → Type 0
 GotAll None bytes = Unit {0}
 GotAll (Some w) bytes = Appends w.old w.new bytes
 
--- just so many of these bytes were written to it
+-- exactly `count` of these bytes were written to it
 abbrev pub GotPart : Option Wrote → List ℕ → ℕ → Type 0
 GotPart None bytes count = ⊥
 GotPart (Some w) bytes count = TookBytes w.old w.new bytes count
 
--- The end of the writing of a text and an image: both are written; or a first part of the text and no image; or the text, and just so many
+-- The end of the writing of a text and an image. Both are written; or a first part of the text and no image; or the text, and exactly `fault.written`
 -- bytes of the image.
 abbrev pub EndsWriting : Report → List ℕ → List (List ℕ) → Wrote → Option Wrote → Result Report ServeFault → Type 0
 EndsWriting report text J replies out (Ok r) = (r ≡ report) × Appends replies.old replies.new text × GotAll out (image_bytes J)
@@ -155,8 +155,8 @@ EndsWriting report text J replies out (Err NoMemory) = ⊥
 EndsWriting report text J replies out (Err NoThread) = ⊥
 EndsWriting report text J replies out (Err Unmatched) = ⊥
 
--- The end of a run over a reader that gave `bytes` and has `rest` left, with a writer of replies, and a writer of the image if there is one. The
--- list may have so many entries as the limit.
+-- The end of a run over a reader that gave `bytes` and has `rest` left, with a writer of replies, and a writer of the image if there is one. The list
+-- has at most `limit` entries.
 abbrev pub EndsServe : List ℕ → List Script → ℕ → List ℕ → Option (List ℕ) → Wrote → Option Wrote → Result Report ServeFault → Type 0
 -- all is written
 EndsServe stamp scripts limit bytes rest replies out (Ok r) =
@@ -175,7 +175,7 @@ EndsServe stamp scripts limit bytes rest replies out (Err Write) =
     (text : List ℕ) × (count : ℕ)
     × (((J : List (List ℕ)) × (r : Report) × IsRun stamp scripts limit bytes rest J r text) ⊎ ((number : ℕ) × AreRefused bytes rest number text))
     × TookBytes replies.old replies.new text count × IsUntouched out
--- the replies are written, and just so many bytes of the image
+-- the replies are written, and exactly `fault.written` bytes of the image
 EndsServe stamp scripts limit bytes rest replies out (Err (WriteOut fault)) =
     (J : List (List ℕ)) × (r : Report) × (text : List ℕ) × IsRun stamp scripts limit bytes rest J r text
     × Appends replies.old replies.new text × GotPart out (image_bytes J) fault.written

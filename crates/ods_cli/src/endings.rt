@@ -1,14 +1,14 @@
-//! How a run of the program ends: its exit status, and the line of one that fails.
+//! The end of a run of the program: its exit status, and its line on standard error if it fails.
 ghost use Rattle.std.specs.Prelude.{◌≡◌, MatchOption, None, Some};
 ghost use Rattle.ods_cli.specs.Endings.{status_of, fault_status, line_of};
 
 use crate::ServeFault;
 
-/// The exit status of wrong words.
+/// The exit status if the words are wrong.
 pub const WRONG_WORDS: u8 = 2;
 
-/// The exit status of a run that was answered so: 0 where the reply says what was asked for, 1 where it refuses the image or the
-/// header, else that of the fault.
+/// Returns the exit status of a run: 0 if the reply is the requested one, 1 if it refuses the image or the header. Otherwise it is the status of the
+/// fault.
 pub fn status(answer: &Result<bool, ServeFault>) -> u8
     ensures { result ≡ status_of answer.now }
 {
@@ -20,7 +20,7 @@ pub fn status(answer: &Result<bool, ServeFault>) -> u8
 }
 
 impl ServeFault {
-    /// The exit status of a run that fails so.
+    /// Returns the exit status of a run that fails with this fault: 1 for a refusal, 4 for an unmatched list, otherwise 3.
     pub fn status(&self) -> u8
         ensures { result ≡ fault_status self.now }
     {
@@ -35,7 +35,7 @@ impl ServeFault {
         }
     }
 
-    /// The line that goes to standard error, with no line feed; none for a refusal, whose line stands among the replies.
+    /// Returns the line for standard error, without a line feed. A refusal has none: its line is among the replies.
     pub fn line(&self) -> Option<&'static str>
         ensures { MatchOption result (line_of self.now ≡ None) (λ line. line_of self.now ≡ Some line.now) }
     {

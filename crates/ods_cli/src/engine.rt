@@ -1,4 +1,4 @@
-//! The engine: an image is read and mounted, scripts are served on it by sessions, and replies and image are written.
+//! The engine: it reads and mounts an image, runs scripts on it in sessions, and writes the replies and the image.
 ghost use Rattle.std.specs.Prelude.{◌≡◌, ◌≤◌, ℕ, List, All, length, is_some, IfOk, OnOk, IfErr};
 ghost use Rattle.std.specs.String.{string_bytes};
 ghost use Rattle.std.specs.Io.KnownBytes.{Consumes};
@@ -20,19 +20,18 @@ use std::io::{Read, Write};
 use std::sync::Wait;
 use std::thread::Threads;
 
-/// How a run serves.
+/// The options of a run.
 #[derive(Clone, Copy)]
 pub struct Options {
-    /// How many requests are accepted at most, from 1 to 65,536.
+    /// The highest number of accepted requests, from 1 to 65,536.
     pub limit: u32,
-    /// The stamp of the files that are made.
+    /// The stamp of new files.
     pub stamp: Stamp,
 }
 
-/// Serves at most 8 scripts on the image that a reader gives, each as a session in a thread of its own. It answers how many requests
-/// were accepted, in all and of each session. The replies and the totals are written first, and last the image as it is then, if
-/// there is a writer for it. Where the bytes are no sound image, the line of that refusal is written and nothing else. With no script no
-/// image is kept but the one that was read.
+/// Runs at most 8 scripts on the image of a reader, each as a session in a thread of its own. Returns the number of accepted requests, in total and
+/// for each session. It writes the replies and the totals first. Last it writes the changed image, if there is a writer for it. If the bytes are not
+/// a sound image, it writes only the line of that refusal. Without a script only the image that was read is kept.
 pub fn serve<I: Read, W: Write, O: Write, G: Gate + Sync, R: Threads + Wait + Sync>(
     rt: &R,
     alloc: Global,

@@ -1,4 +1,4 @@
-//! Why a run ends without its replies.
+//! The reasons why a run ends without its replies.
 ghost use Rattle.std.specs.Prelude.{◌≡◌};
 ghost use Rattle.ods_cli.specs.declared.fault.ServeFault.TheVariants.{NoMemory};
 
@@ -6,10 +6,10 @@ use ods_base::WriteFault;
 use std::alloc::AllocError;
 use thiserror::Error;
 
-/// Why a run ends without its replies, or without the image that it was to write.
+/// The reason why a run ends without its replies, or without the image that it was to write.
 #[derive(Clone, Copy, Debug, PartialEq, Eq, Error)]
 pub enum ServeFault {
-    /// The bytes that were read are no sound image. The line with this number stands among the replies.
+    /// The bytes that were read are not a sound image. The line with this number is among the replies.
     #[error("refused")]
     Refused(u16),
     /// A read failed.
@@ -18,7 +18,7 @@ pub enum ServeFault {
     /// A write of the replies failed.
     #[error("writing failed")]
     Write,
-    /// A write of the image failed, after so many bytes.
+    /// A write of the image failed. The fault has the number of bytes written.
     #[error("writing failed")]
     WriteOut(WriteFault),
     /// The allocator refused memory.
@@ -27,7 +27,7 @@ pub enum ServeFault {
     /// A thread could not be started.
     #[error("no thread")]
     NoThread,
-    /// The volume's list is not that of the sessions.
+    /// The volume's list does not consist of the sessions' calls.
     #[error("unmatched")]
     Unmatched,
 }

@@ -11,9 +11,9 @@ use ods_header::{LineFault, find_home, header_line};
 use std::alloc::{AllocError, Global};
 use std::io::{Read, Write};
 
-/// Reads an image and replies with one line about header `number`, from 1 to 16: its header line and `true`;
-/// or `NO number Name` and `false`, for bytes that are no image (1, 2), an image without a home block (15) or
-/// a block that is no such header (10 to 14). Nothing is mounted.
+/// Reads an image and writes one line about header `number`, from 1 to 16. If the header is valid, the line is its header line and the result is
+/// `true`. Otherwise the line is `NO number Name` and the result is `false`. The refusals are: the bytes are not an image (1, 2), there is no home
+/// block (15), or the block is not a valid header of this number (10 to 14). The image is not mounted.
 pub fn header_run<R: Read, W: Write>(
     alloc: Global,
     reader: &mut R,

@@ -1,4 +1,4 @@
-//! The engine of `f11`: what it serves, over any reader and writer, its words, and its sample volumes.
+//! The engine of `f11`: runs over any reader and writer, its words, and its sample volumes.
 #![tactic(auto)]
 
 mod endings;

@@ -1,10 +1,10 @@
-//! The replies to a script as a session prints them, each as soon as it is given.
+//! The replies to a script as a session prints them, each as soon as it is there.
 use ods_ask::{Command, Reply};
 use ods_script::push_reply;
 use ods_share::Keep;
 use std::alloc::{AllocError, Global};
 
-/// The replies to a script's commands, in order, as they are printed: what a session keeps that keeps no reply itself.
+/// The replies to a script's commands, in order, as they are printed. A session keeps this text instead of the replies.
 #[derive(Drop)]
 pub struct Printed {
     pub text: String,

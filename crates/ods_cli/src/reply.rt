@@ -1,4 +1,4 @@
-//! How a run reads its image, and how it writes its reply.
+//! The functions with which a run reads its image and writes its reply.
 ghost use Rattle.std.specs.Prelude.{◌≡◌, ℕ, List, IfOk, MatchResult};
 ghost use Rattle.std.specs.String.{string_bytes};
 ghost use Rattle.std.specs.Io.KnownBytes.{Appends, Consumes};
@@ -13,20 +13,20 @@ use std::io::{Read, Write};
 /// A reply.
 #[derive(Drop)]
 pub(crate) struct Reply {
-    /// Whether it says what was asked for, and is no refusal.
+    /// Whether it has the requested result, and is not a refusal.
     pub(crate) found: bool,
     /// Its lines, each with its line feed.
     pub(crate) text: String,
 }
 
-/// That bytes are no image, or no sound one: the number of a refusal that is true of them, and its line, with its line feed.
+/// The refusal of bytes that are not an image, or not a sound one: its number, and its line with its line feed.
 #[derive(Drop)]
 pub(crate) struct NoImage {
     pub(crate) number: u16,
     pub(crate) line: String,
 }
 
-/// The image of what the reader gives, or why it is none.
+/// Returns the image of the reader's bytes, or the refusal if they are not an image.
 pub(crate) fn read_image<R: Read>(
     alloc: Global,
     reader: &mut R,
@@ -48,7 +48,7 @@ pub(crate) fn read_image<R: Read>(
     }
 }
 
-/// The line of a refusal that carries nothing.
+/// Returns the line of a refusal without parameters.
 pub(crate) fn refusal_line(alloc: Global, number: u16, name: &str) -> Result<String, AllocError>
     ensures { IfOk result (λ line. string_bytes line ≡ refusal_line number name.now) }
 {
@@ -56,7 +56,7 @@ pub(crate) fn refusal_line(alloc: Global, number: u16, name: &str) -> Result<Str
     Ok(line)
 }
 
-/// Writes the reply, and answers whether it says what was asked for.
+/// Writes the reply, and returns whether it has the requested result.
 pub(crate) fn send<W: Write>(replies: &mut W, reply: &Reply) -> Result<bool, ServeFault>
     ensures { MatchResult result
         (λ found. (found ≡ reply.now.found) × Appends (W.contents replies.old) (W.contents replies.new) (string_bytes reply.now.text))

@@ -1,23 +1,24 @@
-//! Which run the words of the command line ask for.
+//! The choice of a run by the words of the command line.
 ghost use Rattle.std.specs.Prelude.{◌≡◌, MatchOption, IfSome, if◌then◌else◌};
 ghost use Rattle.ods_cli.specs.{Runs.IsHeaderNumber, Runs.AsksForOne, declared.runs.Run.TheVariants.SampleHeader, declared.runs.Run.TheVariants.ImageHeader, declared.runs.Run.TheVariants.Input, declared.runs.Run.TheVariants.Scripts};
 
 use crate::Words;
 
-/// What a run is to do.
+/// The kind of a run.
 #[derive(Clone, Copy, Debug, PartialEq, Eq)]
 pub enum Run<'a> {
-    /// Print the line of this header of the sample volume.
+    /// Prints the line of this header of the sample volume.
     SampleHeader(u16),
-    /// Print the line of this header of the image at this path.
+    /// Prints the line of this header of the image at this path.
     ImageHeader(&'a str, u16),
-    /// Serve one script from standard input on the sample volume.
+    /// Runs one script from standard input on the sample volume.
     Input,
-    /// Serve the scripts that the words name on the image that they name.
+    /// Runs the scripts of the words on the image of the words.
     Scripts,
 }
 
-/// The run that the words ask for: with `--header` a header's line, with no word at all a script from standard input, else scripts.
+/// Returns the run that the words request. With `--header` it prints a header's line. With no word at all it runs a script from standard input.
+/// Otherwise it runs the given scripts.
 pub fn run_for<'a>(words: &Words<'a>) -> Run<'a>
     ensures run { MatchOption words.now.header
         (result ≡ (if words.now.is_bare then Input else Scripts))

@@ -6,7 +6,8 @@ use ods_base::Uic;
 use ods_init::{Blueprint, Places, make_volume};
 use std::alloc::{AllocError, Global};
 
-/// The bytes of a sample volume of 40 or 512 blocks. Its blocks from LBN 22 on are free, and hold old bytes.
+/// Returns the bytes of a sample volume of 40 or 512 blocks. Its blocks from LBN 22 on are free, and each of their bytes is 0x5A. It fails only when
+/// out of memory.
 pub fn sample(alloc: Global, blocks: u32) -> Result<Vec<u8>, AllocError>
     requires { (blocks ≡ 40) ⊎ (blocks ≡ 512) }
     ensures blocks { IfOk result (λ bytes. IsSample blocks bytes.items) }

@@ -1,4 +1,4 @@
-//! Scripts, as they are read.
+//! The reader and parser of scripts.
 ghost use Rattle.std.specs.Prelude.{◌≡◌, ◌<◌, ◌≤◌, ◌^◌, ℕ, List, All, length, vec_len, take, Ok, map, IfOk, IfErr, MatchResult};
 ghost use Rattle.std.specs.Io.KnownBytes.{Consumes, IsAtEnd, Keeps};
 ghost use Rattle.ods_share.specs.Scripts.{CanBeRun};
@@ -15,12 +15,12 @@ use std::thread::{Threads, map_vec};
 /// How many bytes a script has at most.
 const MOST_BYTES: usize = 1_048_576;
 
-/// Why a script is not read.
+/// The reason why a script is not read.
 #[derive(Clone, Copy, Debug, PartialEq, Eq)]
 pub enum ScriptFault {
     /// A read failed.
     Read,
-    /// It has more than 1,048,576 bytes.
+    /// The script has more than 1,048,576 bytes.
     TooLarge,
     /// The allocator refused memory.
     NoMemory,
@@ -37,7 +37,7 @@ impl From<AllocError> for ScriptFault {
     }
 }
 
-/// The script that a reader gives, to its end: the commands of all its bytes. A read that fails is not tried again.
+/// Reads a script from a reader to its end, and parses all its bytes into commands. A failed read is not tried again.
 pub fn read_script<R: Read>(alloc: Global, reader: &mut R) -> Result<Script, ScriptFault>
     ensures can { IfOk result (λ s. CanBeRun s.commands.items) }
     ensures read { (bytes : List ℕ) × Consumes (R.remaining reader.old) (R.remaining reader.new) bytes
@@ -48,7 +48,7 @@ pub fn read_script<R: Read>(alloc: Global, reader: &mut R) -> Result<Script, Scr
     Ok(parse_script(alloc, text.as_slice())?)
 }
 
-/// The text of a script that a reader gives, to its end, for [`parse_scripts`]. A read that fails is not tried again.
+/// Reads the text of a script from a reader to its end, for [`parse_scripts`]. A failed read is not tried again.
 pub fn read_script_text<R: Read>(alloc: Global, reader: &mut R) -> Result<Vec<u8>, ScriptFault>
     ensures { (bytes : List ℕ) × Consumes (R.remaining reader.old) (R.remaining reader.new) bytes
         × MatchResult result (λ text. IsTextOf bytes (R.remaining reader.new) text.items) (IsScriptFault bytes) }
@@ -57,7 +57,7 @@ pub fn read_script_text<R: Read>(alloc: Global, reader: &mut R) -> Result<Vec<u8
     read_text(alloc, reader, &mut piece)
 }
 
-/// The scripts of these texts, each parsed in a thread of its own where one can be made. The error is for memory.
+/// Parses these texts into scripts, each in a thread of its own if one can be started. It fails only when out of memory.
 pub fn parse_scripts<R: Threads + Sync>(
     rt: &R,
     alloc: Global,

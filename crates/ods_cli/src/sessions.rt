@@ -1,4 +1,4 @@
-//! The sessions of a run on a sound image: what they make of it, and what is said of that.
+//! The sessions of a run on a sound image: their changes, and the printed results.
 ghost use Rattle.std.specs.Prelude.{◌≡◌, ◌≤◌, ℕ, List, [], All, length, vec_len, IfOk, IfErr};
 ghost use Rattle.std.specs.String.{string_bytes};
 ghost use Rattle.ods_space.specs.Free.{free_blocks, free_numbers};
@@ -21,17 +21,17 @@ use std::alloc::{AllocError, Global};
 use std::sync::Wait;
 use std::thread::Threads;
 
-/// What is said of a run.
+/// The printed results of a run.
 #[derive(Drop)]
 pub(crate) struct Said {
     pub(crate) report: Report,
-    /// What each session printed.
+    /// The replies of each session, as they are printed.
     pub(crate) printed: Vec<Printed>,
-    /// How many entries the list has, and how many blocks and file numbers are free.
+    /// The lines with the number of entries, of free blocks and of free file numbers.
     pub(crate) totals: String,
 }
 
-/// What came of the scripts.
+/// The result of the scripts.
 #[derive(Drop)]
 pub(crate) struct Served {
     /// The volume after the last of its requests.
@@ -39,7 +39,7 @@ pub(crate) struct Served {
     pub(crate) said: Said,
 }
 
-/// What comes of a run with no script: nothing changes, so it needs no desk, and no image but the mounted one.
+/// Returns the results of a run without a script. Nothing changes, so it needs no desk, and only the mounted image.
 pub(crate) fn serve_none(
     alloc: Global,
     mounted: &Mounted,
@@ -66,7 +66,7 @@ pub(crate) fn serve_none(
     })
 }
 
-/// Runs the scripts on a sound image, and settles the volume's list with them.
+/// Runs the scripts on a sound image, and settles the volume's list with their calls.
 pub(crate) fn serve_all<G: Gate + Sync, R: Threads + Wait + Sync>(
     rt: &R,
     alloc: Global,

@@ -1,4 +1,4 @@
-//! A sound image from the bytes of a reader, or why there is none.
+//! A sound image from the bytes of a reader, or the refusal.
 ghost use Rattle.std.specs.Prelude.{◌≡◌, ◌≢◌, ℕ, List, MatchResult, IfOk, IsOkUnless};
 ghost use Rattle.std.specs.String.{string_bytes};
 ghost use Rattle.std.specs.Io.KnownBytes.{Consumes};
@@ -11,7 +11,7 @@ use ods_mount::{MountFault, Mounted, mount};
 use std::alloc::Global;
 use std::io::Read;
 
-/// The sound image of what the reader gives, or why it is none.
+/// Reads and mounts the image of a reader, or returns the refusal if the bytes are not a sound image.
 pub(crate) fn sound_image<R: Read>(
     alloc: Global,
     reader: &mut R,

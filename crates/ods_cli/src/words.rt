@@ -15,33 +15,37 @@ const LIMIT: u32 = 4096;
 /// The stamp of new files where none is given.
 const STAMP: &str = "01JAN80000000";
 
-/// What the words ask for.
+/// The parsed words of the command line.
 #[derive(Debug, PartialEq, Eq, Drop)]
 pub struct Words<'a> {
-    /// The path of an image; with none the sample volume of 40 blocks is meant.
+    /// The path of an image. With none, it is the sample volume of 40 blocks.
     pub image: Option<&'a str>,
-    /// The number, from 1 to 16, of the header that is asked for; with none the image is to be served.
+    /// The number, from 1 to 16, of the requested header. With none, scripts run on the image.
     pub header: Option<u16>,
-    /// How many requests are accepted at most, from 1 to 65,536.
+    /// The highest number of accepted requests, from 1 to 65,536.
     pub limit: u32,
-    /// The stamp of the files that are made.
+    /// The stamp of new files.
     pub stamp: Stamp,
-    /// The path of the file that the image is written to, if one is given.
+    /// The path of the file to which the image is written, if one is given.
     pub out: Option<&'a str>,
     /// The paths of at most 8 scripts.
     pub scripts: Vec<&'a str>,
-    /// There is no word at all.
+    /// Whether there is no word at all.
     pub is_bare: bool,
 }
 
-/// What the words after the program's name ask for.
-pub fn parse_words<'a, S: AsStr>(alloc: Global, words: &'a [S]) -> Result<Words<'a>, WordsFault>
+/// Parses the words after the program's name. `--version` prints `version` after the name. The error is the line for wrong words, or out of memory.
+pub fn parse_words<'a, S: AsStr>(
+    alloc: Global,
+    words: &'a [S],
+    version: &'a str,
+) -> Result<Words<'a>, WordsFault>
     ensures header { IfOk result (λ words. IfSome words.header IsHeaderNumber) }
     ensures limit { IfOk result (λ words. IsLimit words.limit) }
     ensures scripts { IfOk result (λ words. vec_len words.scripts ≤ MOST_SESSIONS) }
     ensures bare { IfOk result (λ found. found.is_bare ≡ (length words.now == 0)) }
 {
-    match matches(alloc, words) {
+    match matches(alloc, words, version) {
         Ok(matches) => found_words(alloc, &matches, words.is_empty()),
         Err(error) => Err(tell_error(alloc, &error)?),
     }
@@ -62,7 +66,7 @@ fn found_words<'a>(
     let given = matches.get_str("stamp").unwrap_or(STAMP);
     let Some(stamp) = Stamp::parse(given.as_bytes()) else {
         let line = format!(in alloc;
-            "error: invalid value '{given}' for '--stamp <S>': it is no DDMMMYYHHMMSS"
+            "error: invalid value '{given}' for '--stamp <S>': it is not of the form DDMMMYYHHMMSS"
         )?;
         return Err(WordsFault::Wrong(line));
     };
@@ -121,8 +125,13 @@ fn first_paths<'a>(alloc: Global, given: &[&'a str]) -> Result<Vec<&'a str>, All
 }
 
 /// What clap finds in the words.
-fn matches<'a, S: AsStr>(alloc: Global, words: &'a [S]) -> Result<ArgMatches<'a>, Error> {
+fn matches<'a, S: AsStr>(
+    alloc: Global,
+    words: &'a [S],
+    version: &'a str,
+) -> Result<ArgMatches<'a>, Error> {
     Command::new(alloc, "f11")
+        .version(version)
         .about("Serves volumes of RSX-11, Files-11 structure level 1")
         .override_usage("f11 [IMAGE] [--limit N] [--stamp S] [--out FILE] [--header N] [SCRIPT..]")
         .after_help(AFTER_HELP)
@@ -137,16 +146,16 @@ fn matches<'a, S: AsStr>(alloc: Global, words: &'a [S]) -> Result<ArgMatches<'a>
 }
 
 fn image<'a>(alloc: Global) -> Arg<'a> {
-    Arg::new(alloc, "image").value_name("IMAGE").help(
-        "The image to read; with none, a sample volume of 40 blocks",
-    )
+    Arg::new(alloc, "image")
+        .value_name("IMAGE")
+        .help("The image to read. Default: a sample volume of 40 blocks")
 }
 
 fn scripts<'a>(alloc: Global) -> Arg<'a> {
     Arg::new(alloc, "script")
         .value_name("SCRIPT")
         .num_args(0..=MOST_SESSIONS)
-        .help("Scripts, at most 8, each of at most 1,048,576 bytes, served side by side")
+        .help("Scripts, at most 8, each of at most 1,048,576 bytes, served in parallel")
 }
 
 fn limit_word<'a>(alloc: Global) -> Arg<'a> {
@@ -154,12 +163,12 @@ fn limit_word<'a>(alloc: Global) -> Arg<'a> {
         .long("limit")
         .value_name("N")
         .value_parser(value_parser!(u32).range(1..=65_536))
-        .help("Accept at most N requests, 1 to 65536; with none, 4096")
+        .help("Accept at most N requests, 1 to 65536. Default: 4096")
 }
 
 fn stamp_word<'a>(alloc: Global) -> Arg<'a> {
     Arg::new(alloc, "stamp").long("stamp").value_name("S").help(
-        "The date and time of new files, DDMMMYYHHMMSS; with none, 01JAN80000000",
+        "The date and time of new files, DDMMMYYHHMMSS. Default: 01JAN80000000",
     )
 }
 
@@ -167,7 +176,7 @@ fn out_word<'a>(alloc: Global) -> Arg<'a> {
     Arg::new(alloc, "out")
         .long("out")
         .value_name("FILE")
-        .help("Write the image to FILE at the end; it may be IMAGE")
+        .help("Write the image to FILE at the end. FILE may be IMAGE")
 }
 
 fn header_word<'a>(alloc: Global) -> Result<Arg<'a>, AllocError> {
@@ -182,24 +191,27 @@ fn header_word<'a>(alloc: Global) -> Result<Arg<'a>, AllocError> {
 
 /// What the help says behind the words.
 const AFTER_HELP: &str =
-    "With no words at all one script is read from standard input, on the sample volume.
+    "Without any argument, f11 reads one script from standard input and serves it on the sample volume.
 
-A line of a script is one command, and each is answered by OK, NO and a refusal, or BAD and its number:
-  USER [g,m]              go on as this user; the first is [1,1]
+Each line of a script is a command. Its reply is OK, NO with a refusal, or BAD with the number of the line:
+  USER [g,m]              act as this user; the first is [1,1]
   CREATE name n           make a file of n blocks
   EXTEND id n             add n blocks
   TRUNCATE id n           keep the first n blocks
   DELETE id               delete a file
   ENTER id name id        enter a name in a directory
-  LOOK id name            look a name up
+  LOOK id name            look up a name
   REMOVE id name          remove a name
   READ id vbn             read a block
   WRITE id vbn block      write a block, in hex
   LIST id                 list a directory
-  STAT id                 what a file is
+  STAT id                 describe a file
   SETUSER id attributes   set a file's attributes, in hex
   VIEW LOOK, READ, STAT   look without waiting for other sessions
 An id is number,sequence or $, the file that was last made, found or removed: CREATE A.TXT;1 3, then WRITE $ 1 48690d0a.
 
-The status is 0; 1 where the image or the header is refused; 2 for wrong words or scripts that are too large; 3 where
-reading, writing, memory or a thread failed; 4 where the volume's list is not that of the sessions.";
+The status is 0 if all scripts were served;
+1 if f11 refuses the image or the header;
+2 if an argument is not valid, or a script is too large;
+3 if reading, writing, memory or a thread fails;
+4 if the list of the volume differs from the lists of the sessions.";

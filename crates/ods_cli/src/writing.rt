@@ -1,4 +1,4 @@
-//! Writing of the replies: part by part, so that nobody joins in memory what the sessions printed.
+//! The writing of the replies: part by part, so that the texts of the sessions are not joined in memory.
 ghost use Rattle.std.specs.Prelude.{◌≡◌, ◌≤◌, length, OnOk, IfErr};
 ghost use Rattle.std.specs.Io.KnownBytes.{Appends};
 ghost use Rattle.ods_cli.specs.{Printed.printed_session, Printed.printed_text, Printed.said_text, Printed.session_line, Writing.IsCut};

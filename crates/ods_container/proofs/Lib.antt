@@ -1,3 +1,4 @@
 pub mod Containers
 pub mod Sizes
 pub mod Sent
+pub mod Lacking

@@ -1,4 +1,4 @@
--- What stands behind a volume by its first bytes.
+-- The footer after a volume, by its first bytes.
 use Rattle.std.specs.Prelude.{◌≡◌, List, ℕ, take, codes}
 use Rattle.ods_container.specs.declared.footer.Footer.{Footer}
 use Rattle.ods_container.specs.declared.footer.Footer.TheVariants.{Simh, Vhd}

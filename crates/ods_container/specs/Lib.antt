@@ -1,3 +1,4 @@
 pub mod Size
 pub mod Container
 pub mod Footer
+pub mod Part

@@ -1,4 +1,4 @@
-//! The volume in the bytes of a file, and what stands behind it.
+//! The volume in the bytes of a file, and the bytes after it.
 ghost use Rattle.std.specs.Prelude.{◌≡◌, ◌≤◌, ◌*◌, ◌^◌, ℕ, List, None, IfOk, IfErr, MatchResult, length};
 ghost use Rattle.std.specs.Io.KnownBytes.{Consumes};
 ghost use Rattle.ods_base.specs.Image.{image_bytes};
@@ -14,16 +14,16 @@ use std::io::Read;
 /// The volume in the bytes of a file.
 #[derive(Drop)]
 pub struct Contained {
-    /// The blocks of the volume. Those that the file lacks are zeros.
+    /// The blocks of the volume. Blocks past the end of the file are zeros.
     pub image: Image,
-    /// What stands behind them in the file.
+    /// The bytes of the file after the volume.
     pub behind: Vec<u8>,
-    /// How many bytes the file has.
+    /// The number of bytes of the file.
     pub length: u64,
 }
 
-/// The volume in an image: of the size in blocks that is given, or else of the one that the volume says, or else of the image's. Where that
-/// is the image's, nothing is copied.
+/// Returns the volume in an image. Its size in blocks is the given one. Otherwise it is the size that the volume states, otherwise the size of the
+/// image. If the size is that of the image, nothing is copied. The error is TooBig for a given size of more than 1,048,576 blocks, or NoMemory.
 #[tactic(auto, using(crate::proofs::Containers::contained_by, crate::proofs::Containers::image_size, crate::proofs::Containers::seen_whole))]
 pub fn contained_in(
     alloc: Global,
@@ -43,8 +43,8 @@ pub fn contained_in(
     }
 }
 
-/// The volume in all bytes of a reader, as [`contained_in`] says: these may be no whole blocks, and more than the largest image has. A read
-/// that fails is not tried again.
+/// Reads all bytes of a reader, and returns the volume in them, as [`contained_in`] does. The bytes may be other than whole blocks, and more than the
+/// largest image has. A failed read is not tried again.
 pub fn read_contained<R: Read>(
     alloc: Global,
     reader: &mut R,

@@ -6,7 +6,7 @@ ghost use Rattle.ods_container.specs.Container.{volume_bytes};
 use ods_base::Image;
 use std::alloc::{AllocError, Global};
 
-/// The image of so many blocks of these bytes, with zeros where they end. They are there again when it is made.
+/// Returns the image of the first `count` blocks of these bytes, padded with zeros. If it succeeds, the bytes are unchanged.
 pub(crate) fn first_blocks(
     alloc: Global,
     bytes: &mut Vec<u8>,

@@ -1,17 +1,17 @@
-//! What stands behind a volume, by its first bytes.
+//! The footer after a volume, by its first bytes.
 ghost use Rattle.std.specs.Prelude.{IfSome, IfNone};
 ghost use Rattle.ods_container.specs.Footer.{BeginsAs};
 
-/// A footer that an emulator keeps behind a volume.
+/// A footer that an emulator stores after a volume.
 #[derive(Clone, Copy, Debug, PartialEq, Eq)]
 pub enum Footer {
-    /// Of simh.
+    /// The footer of simh.
     Simh,
-    /// Of a VHD of fixed size.
+    /// The footer of a VHD of fixed size.
     Vhd,
 }
 
-/// Which footer these bytes begin as.
+/// Returns the footer that begins with these bytes, or `None` if there is no such footer.
 pub fn footer_of(behind: &[u8]) -> Option<Footer>
     ensures some { IfSome result (BeginsAs behind.now) }
     ensures none { IfNone result ((footer : Footer) → ¬ BeginsAs behind.now footer) }

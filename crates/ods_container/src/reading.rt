@@ -7,10 +7,10 @@ use ods_base::{ImageError, PIECE};
 use std::alloc::Global;
 use std::io::Read;
 
-/// The most bytes of a file that are read: those of the largest image, and 65,536 behind it.
+/// The most bytes of a file that are read: the bytes of the largest image, and 65,536 after it.
 pub const MOST_BYTES: usize = 536_936_448;
 
-/// All that a reader gives, to its end. A read that fails is not tried again.
+/// Reads all bytes of a reader, to its end. A failed read is not tried again. More than [`MOST_BYTES`] bytes are TooBig.
 pub(crate) fn read_all<R: Read>(alloc: Global, reader: &mut R) -> Result<Vec<u8>, ImageError>
     ensures { (bytes : List ℕ) × Consumes (R.remaining reader.old) (R.remaining reader.new) bytes
         × MatchResult result (λ all. AreAll bytes (R.remaining reader.new) all.items) (AreNotRead bytes) }

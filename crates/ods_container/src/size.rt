@@ -1,4 +1,4 @@
-//! The size of a volume, as its storage control block says it, and when that is believed.
+//! The size of a volume as its storage control block states it, and when that size is trusted.
 ghost use Rattle.std.specs.Prelude.{◌≡◌, ◌+◌, ◌<◌, ◌≤◌, ◌^◌, ℕ, IfOk, IfSome, IfNone, MatchBool, length};
 ghost use Rattle.ods_header.specs.Header.{IsLaidOut};
 ghost use Rattle.ods_space.specs.{Disks.on, Files.IsLayoutOf};
@@ -10,8 +10,8 @@ use ods_mount::read_layout;
 use ods_space::{Disk, header_block, in_use, last_number};
 use std::alloc::{AllocError, Global};
 
-/// The size in blocks that the volume of this image says itself, where it is believed. The image may be longer or shorter. The error is
-/// for memory.
+/// Returns the size in blocks that the volume of this image itself states, if it is trusted. The image may be longer or shorter. It fails only when
+/// out of memory.
 pub fn believed_size(alloc: Global, image: &Image) -> Result<Option<u32>, AllocError>
     ensures some { IfOk result (λ found. IfSome found (SaysSize image.now)) }
     ensures none { IfOk result (λ found. IfNone found (SaysNone image.now)) }
@@ -80,7 +80,7 @@ fn size_word(count: usize) -> usize
 
 /// Whether each header that counts maps only blocks below this size.
 #[tactic(auto, using(crate::proofs::Sizes::next_mapped, crate::proofs::Sizes::all_mapped, crate::proofs::Sizes::not_mapped))]
-fn are_mapped_below(disk: &Disk<'_>, size: u32) -> bool
+pub(crate) fn are_mapped_below(disk: &Disk<'_>, size: u32) -> bool
     ensures { MatchBool result (on AreMappedBelow disk.now size) (¬ on AreMappedBelow disk.now size) }
 {
     for number in 0..last_number(disk.layout) as u32 + 1 {

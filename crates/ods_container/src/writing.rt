@@ -1,4 +1,4 @@
-//! A volume written with what stands behind it.
+//! The writer of a volume with the bytes after it.
 ghost use Rattle.std.specs.Prelude.{◌++◌, OnOk, IfErr};
 ghost use Rattle.std.specs.Io.KnownBytes.{Appends};
 ghost use Rattle.ods_base.specs.Image.{image_bytes, TookBytes};
@@ -6,7 +6,7 @@ ghost use Rattle.ods_base.specs.Image.{image_bytes, TookBytes};
 use ods_base::{Image, WriteFault, write_bytes};
 use std::io::Write;
 
-/// Writes the bytes of a volume, and these behind them. A fault says how many bytes the writer took before.
+/// Writes the bytes of a volume, and `behind` after them. The fault has the number of bytes that the writer took before it.
 pub fn write_contained<W: Write>(
     writer: &mut W,
     image: &Image,

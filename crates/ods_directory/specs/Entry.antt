@@ -31,20 +31,20 @@ entry_at blocks k = entry_in (block_at blocks (k / 32)) (k % 32)
 abbrev pub is_used : Entry → Bool
 is_used e = not (e.file.number == 0)
 
--- name and type words are below 64,000, the version is 1 to 32,767, the relative volume number is 0
+-- a valid entry: name and type words are below 64,000, the version is 1 to 32,767, the relative volume number is 0
 pub record IsGoodEntry (e : Entry) : Type 0 where
   pub words : (i : ℕ) → i < 4 → slice_index e.key i < 64000
   pub some : 1 ≤ slice_index e.key 4
   pub most : slice_index e.key 4 ≤ 32767
   pub volume : e.volume ≡ 0
 
--- whether an entry is good, as a test
+-- whether an entry is valid, as a test
 abbrev pub is_good : Entry → Bool
 is_good e =
     nat_lt (slice_index e.key 0) 64000 && nat_lt (slice_index e.key 1) 64000 && nat_lt (slice_index e.key 2) 64000 && nat_lt (slice_index e.key 3) 64000
     && nat_le 1 (slice_index e.key 4) && nat_le (slice_index e.key 4) 32767 && e.volume == 0
 
--- the used entries before the mark, in the order of the blocks: whole entries alone, so mark / 16 of them
+-- the used entries before the end mark, in the order of the blocks; only whole entries count, so there are mark / 16 of them
 unfoldable pub used_entries : List (List ℕ) → ℕ → List Entry
 used_entries blocks mark = filter is_used (map (entry_at blocks) (range_with_len 0 (mark / 16)))
 

@@ -13,15 +13,15 @@ use Rattle.ods_directory.specs.Entry.{Entry, is_good}
 abbrev pub line_of : Entry → Listed
 line_of e = record { name = name_of e.key; version = version_of e.key; file = e.file }
 
--- the key of a line, by which lines are in order
+-- the key by which lines are sorted
 abbrev pub line_key : Listed → List ℕ
 line_key line = key_of line.name line.version
 
--- the keys of these never fall
+-- the keys of these elements never decrease
 abbrev pub IsInOrder : {X : Type 0} → (X → List ℕ) → List X → Type 0
 IsInOrder key xs = IsSortedByKey key (slice_cmp nat_cmp) xs
 
--- two neighbours have one key
+-- two neighbours have the same key
 pub record HasTwinNeighbours {X : Type 0} (key : X → List ℕ) (xs : List X) : Type 0 where
   pub at : ℕ
   pub one : X
@@ -30,14 +30,14 @@ pub record HasTwinNeighbours {X : Type 0} (key : X → List ℕ) (xs : List X) :
   pub second : slice_get xs (at + 1) ≡ Some other
   pub same : key one ≡ key other
 
--- no two neighbours among the first n have one key
+-- no two neighbours among the first n have the same key
 abbrev pub HasNoTwinNeighbours : {X : Type 0} → (X → List ℕ) → List X → ℕ → Type 0
 HasNoTwinNeighbours key xs n = (k : ℕ) → k + 1 < n → (one other : _) → slice_get xs k ≡ Some one → slice_get xs (k + 1) ≡ Some other → key one ≢ key other
 
--- the line of a good entry
+-- the line of a valid entry
 abbrev pub good_line : Entry → Option Listed
 good_line e = if is_good e then Some (line_of e) else None
 
--- the lines of the good ones among these entries, in their order
+-- the lines of the valid entries among these, in their order
 abbrev pub good_lines : List Entry → List Listed
 good_lines es = filter_map good_line es

@@ -5,13 +5,13 @@ use Rattle.ods_directory.specs.declared.fault.DirFault.TheVariants as dir
 use Rattle.ods_directory.specs.declared.fault.Verdict.{Verdict}
 use Rattle.ods_directory.specs.declared.fault.Verdict.TheVariants as verdict
 
--- of a request on a directory
+-- for a request on a directory
 abbrev pub dir_row : DirFault → ℕ × List ℕ
 dir_row dir.NoSuchName = (30, codes "NoSuchName")
 dir_row dir.NameTaken = (31, codes "NameTaken")
 dir_row dir.VersionsFull = (32, codes "VersionsFull")
 
--- of a verdict (a good directory is no refusal, and a name that stands twice is one of the mount's: both have 0)
+-- for a verdict; a good directory is not a refusal, and twice the same name is a fault of the mount, so both have 0
 abbrev pub verdict_row : Verdict → ℕ × List ℕ
 verdict_row verdict.Good = (0, codes "Good")
 verdict_row verdict.BadEntry = (33, codes "BadEntry")

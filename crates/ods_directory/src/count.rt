@@ -1,4 +1,4 @@
-//! How many names a directory has, and whether it has one.
+//! The number of names in a directory, and whether it has one.
 ghost use Rattle.std.specs.Prelude.{◌≡◌, ◌==◌, ◌*◌, ◌≤◌, not, length, map, filter};
 ghost use Rattle.std.specs.List.{range_with_len};
 ghost use Rattle.std.specs.FinMap.{len};
@@ -9,7 +9,7 @@ use crate::scan::entries_in;
 use crate::{DirBlocks, entry};
 use ods_base::Block;
 
-/// How many names there are.
+/// Returns the number of names.
 pub fn name_count<B: DirBlocks>(blocks: &B, mark: u64) -> u64
     requires directory { IsDirectory (B.blocks blocks.now) mark }
     requires mark { mark ≤ 512 * length (B.blocks blocks.now) }
@@ -26,7 +26,7 @@ pub fn name_count<B: DirBlocks>(blocks: &B, mark: u64) -> u64
     names
 }
 
-/// Whether there is a name. The pass ends with the block where the first one is found.
+/// Returns whether there is a name. The pass ends with the block of the first name.
 pub fn has_names<B: DirBlocks>(blocks: &B, mark: u64) -> bool
     requires directory { IsDirectory (B.blocks blocks.now) mark }
     requires mark { mark ≤ 512 * length (B.blocks blocks.now) }

@@ -1,4 +1,4 @@
-//! The entering of names.
+//! Entering names in a directory.
 ghost use Rattle.std.specs.Prelude.{ℕ, ◌≡◌, ◌≢◌, ◌*◌, ◌/◌, ◌+◌, ◌^◌, ◌<◌, ◌≤◌, length, IfOk, IfErr};
 ghost use Rattle.std.specs.Option.{ForSome};
 ghost use Rattle.std.specs.FinMap.{insert};
@@ -13,8 +13,8 @@ use crate::tags::{Wanted, name_tag};
 use crate::{DirBlocks, DirFault, Slot};
 use ods_base::{Block, FileId, LAST_VERSION, Name, Pick};
 
-/// The version that is entered, its position, and the bytes to be written there: the version given, or else the
-/// highest and one more. Where the slot grows, a block of zeros comes behind the others first.
+/// Returns the version to enter, the slot for it, and the bytes to write there. The version is the given one, or otherwise the highest plus one, or
+/// 1. If the slot grows, a block of zeros is appended first.
 pub fn enter<B: DirBlocks>(
     blocks: &B,
     mark: u64,

@@ -1,4 +1,4 @@
-//! The entries of a block, read where they stand.
+//! The entries of a block, read in place.
 ghost use Rattle.std.specs.Prelude.{◌≡◌, ◌<◌};
 ghost use Rattle.ods_base.specs.Names.{is_of, version_of};
 ghost use Rattle.ods_directory.specs.Entry.{entry_in, is_used, is_good};
@@ -9,7 +9,7 @@ use ods_base::{Block, FileId, LAST_VERSION, Name, word};
 /// How many words spell three characters in Radix-50.
 const WORDS: u16 = 64_000;
 
-/// Whether entry `k` of the block names a file.
+/// Returns whether entry `k` of the block names a file.
 pub fn is_used(block: &Block, k: usize) -> bool
     requires { k < 32 }
     ensures { result ≡ is_used (entry_in block.now k) }
@@ -17,7 +17,7 @@ pub fn is_used(block: &Block, k: usize) -> bool
     word(block, ENTRY_WORDS * k) != 0
 }
 
-/// The file that entry `k` of the block names.
+/// Returns the file that entry `k` of the block names.
 pub fn file(block: &Block, k: usize) -> FileId
     requires { k < 32 }
     ensures { result ≡ (entry_in block.now k).file }
@@ -27,7 +27,7 @@ pub fn file(block: &Block, k: usize) -> FileId
     FileId { number, sequence }
 }
 
-/// The version in entry `k` of the block.
+/// Returns the version in entry `k` of the block.
 pub fn version(block: &Block, k: usize) -> u16
     requires { k < 32 }
     ensures { result ≡ version_of (entry_in block.now k).key }
@@ -35,7 +35,7 @@ pub fn version(block: &Block, k: usize) -> u16
     word(block, ENTRY_WORDS * k + 7)
 }
 
-/// Whether entry `k` of the block has this name.
+/// Returns whether entry `k` of the block has this name.
 pub fn is_of(block: &Block, k: usize, name: &Name) -> bool
     requires { k < 32 }
     ensures { result ≡ is_of name.now (entry_in block.now k).key }
@@ -47,7 +47,7 @@ pub fn is_of(block: &Block, k: usize, name: &Name) -> bool
         && word(block, ENTRY_WORDS * k + 6) == name.ext()
 }
 
-/// Whether entry `k` of the block is one that a used entry may be.
+/// Returns whether entry `k` of the block is valid for a used entry.
 pub fn is_good(block: &Block, k: usize) -> bool
     requires { k < 32 }
     ensures { result ≡ is_good (entry_in block.now k) }

@@ -1,22 +1,22 @@
-//! What can be wrong with a directory, and why a request on one is refused.
+//! The faults of a directory, and why a request on a directory is refused.
 ghost use Rattle.ods_directory.specs.Refusals.{dir_row, verdict_row};
 
 use ods_base::{Coded, Row};
 use thiserror::Error;
 
-/// What the check of a directory finds.
+/// The result of the check of a directory.
 #[derive(Clone, Copy, Debug, PartialEq, Eq)]
 pub enum Verdict {
-    /// Each used entry is good, and no two have one name, type and version.
+    /// Each used entry is valid, and no two have the same name, type and version.
     Good,
-    /// A used entry is not good: a word of its name or type is 64,000 or more, its version is 0 or above 32,767, or
-    /// its relative volume number is not 0.
+    /// A used entry is not valid: a word of its name or type is 64,000 or more, its version is 0 or above 32,767, or its relative volume number is
+    /// not 0.
     BadEntry,
-    /// Two used entries have one name, type and version.
+    /// Two used entries have the same name, type and version.
     Twice,
 }
 
-/// `Good` is no refusal, and `Twice` has no number of its own: both have 0.
+/// `Good` is not a refusal, and `Twice` has no number of its own: both have 0.
 impl Coded for Verdict {
     fn row(&self) -> Row {
         match self {
@@ -29,15 +29,15 @@ impl Coded for Verdict {
     ghost row_of = { verdict_row };
 }
 
-/// Why a name is not found or not entered.
+/// The reason why a name is not found or not entered.
 #[derive(Clone, Copy, Debug, PartialEq, Eq, Error)]
 #[error("{}", self.name())]
 pub enum DirFault {
-    /// The directory has no such name, or no such version of it.
+    /// The directory does not have the name, or not this version of it.
     NoSuchName,
-    /// The version given is there already.
+    /// The directory already has the name in the given version.
     NameTaken,
-    /// No version is given, and the highest is 32,767.
+    /// No version is given, and the highest version is 32,767.
     VersionsFull,
 }
 

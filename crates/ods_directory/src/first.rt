@@ -7,18 +7,18 @@ use crate::tags::Wanted;
 use crate::{DirBlocks, entry};
 use ods_base::Block;
 
-/// What kind of entry is looked for.
+/// The kind of an entry to search for.
 #[derive(Clone, Copy, Debug, PartialEq, Eq)]
 pub enum Kind {
-    /// One that names no file.
+    /// An entry that names no file.
     Empty,
-    /// One that names a file and is not good.
+    /// An entry that names a file and is not valid.
     Bad,
-    /// One that names a file.
+    /// An entry that names a file.
     Used,
 }
 
-/// The position of the first entry of a kind, so far.
+/// The position of the first entry of a kind, as far as the pass has read.
 #[derive(Clone, Copy, Debug, PartialEq, Eq)]
 pub struct First {
     pub kind: Kind,
@@ -26,7 +26,7 @@ pub struct First {
 }
 
 impl First {
-    /// No position so far.
+    /// Starts a search without a position.
     pub fn of(kind: Kind) -> First
         ensures { result ≡ record { kind = kind; position = None } }
     {
@@ -83,7 +83,7 @@ impl Pass for First {
     }
 }
 
-/// The position of the first entry before the mark that is of the kind.
+/// Returns the position of the first entry of this kind before the end mark, or `None` if there is none.
 pub fn first_entry<B: DirBlocks>(blocks: &B, mark: u64, kind: Kind) -> Option<u64>
     requires { mark ≤ 512 * length (B.blocks blocks.now) }
     ensures { IsFirst kind (entry_at (B.blocks blocks.now)) (mark / 16) result }

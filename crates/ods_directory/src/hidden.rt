@@ -1,10 +1,10 @@
-//! Whether a directory's end mark hides used entries.
+//! Used entries past the end mark of a directory.
 ghost use Rattle.std.specs.Prelude.{◌≡◌, ◌*◌, ◌<◌, length, MatchBool};
 ghost use Rattle.ods_directory.specs.{Entry.entry_at, Entry.is_used, Hidden.HasHidden};
 
 use crate::{DirBlocks, entry};
 
-/// Whether an entry behind the mark is used. No request reads such an entry, and one that grows the directory writes over it.
+/// Returns whether an entry past the end mark is used. No request reads such an entry, and a request that grows the directory overwrites it.
 pub fn has_hidden<B: DirBlocks>(blocks: &B, mark: u64) -> bool
     ensures { MatchBool result (HasHidden (B.blocks blocks.now) mark) (¬ HasHidden (B.blocks blocks.now) mark) }
 {

@@ -10,25 +10,25 @@ use crate::{DirBlocks, entry};
 use ods_base::{Block, Listed, Name, word};
 use std::alloc::{AllocError, Global};
 
-/// What is kept of a used entry.
+/// The data that a pass keeps for a used entry.
 pub trait Row: Copy {
     ghost use Rattle.std.specs.Prelude.{◌≡◌, ◌<◌};
     ghost use Rattle.ods_directory.specs.Entry.{Entry, entry_in};
 
-    /// Of which entries there is a row.
+    /// The condition under which an entry has a row.
     ghost fits: { Entry → Type 0 };
 
     /// The row of an entry.
     ghost row_of: { Entry → Self };
 
-    /// The row of entry `k` of the block.
+    /// Returns the row of entry `k` of the block.
     fn of(block: &Block, k: usize) -> Self
         requires entry { k < 32 }
         requires fits { fits (entry_in block.now k) }
         ensures { result ≡ row_of (entry_in block.now k) };
 }
 
-/// The name, type and version, as five words: a row of any entry.
+/// The name, type and version of an entry, as five words. It is a row of any entry.
 pub type Key = [u16; 5];
 
 impl Row for Key {
@@ -67,7 +67,7 @@ impl Row for Listed {
     }
 }
 
-/// The line of an entry, where it is good.
+/// The line of an entry, if it is valid.
 impl Row for Option<Listed> {
     ghost use Rattle.std.specs.Prelude.{⊤};
     ghost use Rattle.ods_directory.specs.{Entry.Entry, Lines.good_line};
@@ -85,7 +85,7 @@ impl Row for Option<Listed> {
     }
 }
 
-/// The rows of the used entries before the mark, in the order of the blocks.
+/// Returns the rows of the used entries before the end mark, in the order of the blocks.
 pub fn read_rows<B: DirBlocks, R: Row>(
     alloc: Global,
     blocks: &B,
@@ -121,7 +121,7 @@ fn push_rows<R: Row>(block: &Block, count: usize, rows: &mut Vec<R>) -> Result<(
     Ok(())
 }
 
-/// Puts lines into the order of their keys.
+/// Sorts lines by their keys.
 pub fn sort(lines: &mut Vec<Listed>)
     ensures permutation { IsPermutation lines.old.items lines.new.items }
     ensures order { IsInOrder line_key lines.new.items }

@@ -1,4 +1,4 @@
-//! The check of a directory, and all its names.
+//! The check of a directory, and the list of all its names.
 ghost use Rattle.std.specs.Prelude.{◌≡◌, ◌+◌, ◌*◌, ◌≤◌, length, IfOk, OnErr, MatchBool};
 ghost use Rattle.std.specs.List.{All, filter_map};
 ghost use Rattle.ods_base.specs.Names.{lines_of};
@@ -11,7 +11,8 @@ use crate::{DirBlocks, Verdict};
 use ods_base::Listed;
 use std::alloc::{AllocError, Global};
 
-/// Whether the entries before the mark are good, and no two have one name, type and version. Memory is wanted only where each is good.
+/// Checks the used entries before the end mark: all must be valid, and no two may have the same name, type and version. It runs out of memory only if
+/// each entry is valid.
 pub fn check<B: DirBlocks>(alloc: Global, blocks: &B, mark: u64) -> Result<Verdict, AllocError>
     ensures good { result ≡ Ok Verdict.Good → IsDirectory (B.blocks blocks.now) mark }
     ensures bad { result ≡ Ok Verdict.BadEntry → HasBadEntry (used_entries (B.blocks blocks.now) mark) }
@@ -29,8 +30,8 @@ pub fn check<B: DirBlocks>(alloc: Global, blocks: &B, mark: u64) -> Result<Verdi
     Ok(Verdict::Good)
 }
 
-/// Whether a used entry before the mark is not good: whether a word of its name or type, its version or its relative volume number is none
-/// that a name may have.
+/// Returns whether a used entry before the end mark is not valid. In such an entry a word of the name or type, the version, or the relative volume
+/// number is out of range.
 pub fn has_bad_entry<B: DirBlocks>(blocks: &B, mark: u64) -> bool
     requires { mark ≤ 512 * length (B.blocks blocks.now) }
     ensures { MatchBool result (HasBadEntry (used_entries (B.blocks blocks.now) mark)) (All IsGoodEntry (used_entries (B.blocks blocks.now) mark)) }
@@ -38,7 +39,8 @@ pub fn has_bad_entry<B: DirBlocks>(blocks: &B, mark: u64) -> bool
     first_entry(blocks, mark, Kind::Bad).is_some()
 }
 
-/// The good ones among the used entries before the mark, in the order of the blocks, and how many are bad. It reads what a damaged directory still shows.
+/// Returns the valid entries among the used ones before the end mark, in the order of the blocks, and the number of bad entries. It reads what
+/// remains of a damaged directory.
 pub fn good_entries<B: DirBlocks>(
     alloc: Global,
     blocks: &B,
@@ -69,7 +71,7 @@ fn kept_lines(alloc: Global, rows: &[Option<Listed>]) -> Result<Vec<Listed>, All
     Ok(lines)
 }
 
-/// All names, ascending by name, type and version.
+/// Returns all names, ascending by name, type and version.
 pub fn entries<B: DirBlocks>(
     alloc: Global,
     blocks: &B,

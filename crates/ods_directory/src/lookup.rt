@@ -1,4 +1,4 @@
-//! Look-ups of names.
+//! Looking names up.
 ghost use Rattle.std.specs.Prelude.{◌≡◌, ◌*◌, ◌≤◌, length, IfOk, IfErr};
 ghost use Rattle.ods_base.specs.Names.{Finds};
 ghost use Rattle.ods_directory.specs.{Faults.IsLookUpFault, Names.IsDirectory, Names.names_of};
@@ -7,7 +7,7 @@ use crate::search::find_entry;
 use crate::{DirBlocks, DirFault};
 use ods_base::{FileId, Name, Pick};
 
-/// The file and the version that a name with a pick means.
+/// Returns the file and the version that a name with a pick selects. If the pick selects no version, the fault is `NoSuchName`.
 pub fn look_up<B: DirBlocks>(
     blocks: &B,
     mark: u64,

@@ -1,12 +1,12 @@
-//! The end mark of a directory: how many of its bytes hold entries.
+//! The end mark of a directory: the number of its bytes that hold entries.
 ghost use Rattle.std.specs.Prelude.{◌≡◌, ◌*◌, ◌<◌};
 ghost use Rattle.ods_base.specs.Block.{word, with_word};
 ghost use Rattle.ods_directory.specs.Mark.{mark_in, marked};
 
 use byteorder::{ByteOrder, LittleEndian};
 
-/// The end mark in bytes, cut to the mapped blocks: `(F.EFBK - 1) * 512 + F.FFBY`, and 0 where F.EFBK is 0.
-/// `attributes` are the header's bytes from H.UFAT on, `count` is the number of mapped blocks.
+/// Returns the end mark in bytes, at most the size of the mapped blocks: `(F.EFBK - 1) * 512 + F.FFBY`, or 0 if F.EFBK is 0. `attributes` are the
+/// header's bytes from H.UFAT on, and `count` is the number of mapped blocks.
 pub fn mark_of(attributes: &[u8; 32], count: u32) -> u64
     ensures { result ≡ mark_in attributes.now count }
 {
@@ -21,7 +21,7 @@ pub fn mark_of(attributes: &[u8; 32], count: u32) -> u64
     mark.min(512 * u64::from(count))
 }
 
-/// The attributes with this mark in F.EFBK and F.FFBY, F.FFBY below 512, and with this count of mapped blocks in F.HIBK.
+/// Returns the attributes with this end mark in F.EFBK and F.FFBY, and this count of mapped blocks in F.HIBK. F.FFBY is below 512.
 pub fn with_mark(attributes: [u8; 32], mark: u64, count: u32) -> [u8; 32]
     requires { mark < 512 * 4294967295 }
     ensures { result ≡ marked attributes mark count }

@@ -1,4 +1,4 @@
-//! The removal of names.
+//! Removing names from a directory.
 ghost use Rattle.std.specs.Prelude.{◌≡◌, ℕ, ◌*◌, ◌/◌, ◌<◌, ◌≤◌, length, replicate, IfOk, IfErr, IsTrue};
 ghost use Rattle.std.specs.FinMap.{remove};
 ghost use Rattle.ods_base.specs.{Name.key_of, Names.Finds};
@@ -8,8 +8,8 @@ use crate::search::find_entry;
 use crate::{DirBlocks, DirFault};
 use ods_base::{FileId, Name, Pick};
 
-/// The file and the version that a name with a pick means, and the position of their entry in bytes.
-/// With 16 zero bytes at that position the directory has that name no longer; its mark stays.
+/// Returns the file and the version that a name with a pick selects, and the position of their entry in bytes. If 16 zero bytes are written there,
+/// the directory no longer has the name. Its mark is unchanged. If the pick selects no version, the fault is `NoSuchName`.
 pub fn remove<B: DirBlocks>(
     blocks: &B,
     mark: u64,

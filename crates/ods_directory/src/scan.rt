@@ -7,29 +7,29 @@ use crate::DirBlocks;
 use crate::tags::{Tags, Wanted, has_wanted};
 use ods_base::Block;
 
-/// What a pass over the entries collects, one entry after another.
+/// The state of a pass over the entries, which reads one entry after another.
 pub trait Pass {
     ghost use Rattle.std.specs.Prelude.{ℕ, ◌≡◌, ◌<◌, IsTrue};
     ghost use Rattle.ods_directory.specs.{Entry.Entry, Entry.entry_in, Tags.WantsNoOther};
 
-    /// What it is after entry `k` of the directory.
+    /// The state after entry `k` of the directory.
     ghost after: { Self → ℕ → Entry → Self };
 
-    /// Takes entry `k` of the directory, which is entry `at` of this block.
+    /// Adds entry `k` of the directory, which is entry `at` of this block.
     fn take(&mut self, block: &Block, at: usize, k: u64)
         requires { at < 32 }
         ensures { self.new ≡ after self.old k (entry_in block.now at) };
 
-    /// Whether no further entry changes it.
+    /// Returns true only if no further entry changes the state.
     fn is_done(&self) -> bool
         ensures { IsTrue result → (k : ℕ) (e : Entry) → after self.now k e ≡ self.now };
 
-    /// Which entries may change it: no other does.
+    /// Returns the entries that may change the state. No other entry changes it.
     fn wanted(&self) -> Wanted
         ensures { WantsNoOther after self.now result };
 }
 
-/// Takes the entries before the mark.
+/// Passes over the entries before the end mark.
 pub fn scan<B: DirBlocks, G: Pass>(blocks: &B, mark: u64, into: &mut G)
     requires { mark ≤ 512 * length (B.blocks blocks.now) }
     ensures after { into.new ≡ fold (λ s k. G.after s k (entry_at (B.blocks blocks.now) k)) into.old (range_with_len 0 (mark / 16)) }
@@ -110,7 +110,7 @@ fn scan_all<B: DirBlocks, G: Pass>(blocks: &B, mark: u64, into: &mut G)
     }
 }
 
-/// How many entries of block `i` stand before the mark.
+/// Returns the number of entries of block `i` before the end mark.
 pub fn entries_in(mark: u64, i: u32) -> usize
     ensures { result ≡ min (mark / 16 - 32 * i) 32 }
 {

@@ -1,4 +1,4 @@
-//! The entry that a name with a pick means.
+//! The entry that a name with a pick selects.
 ghost use Rattle.std.specs.Prelude.{◌≡◌, ◌*◌, ◌/◌, ◌^◌, ◌<◌, ◌≤◌, length};
 ghost use Rattle.ods_directory.specs.Entry.{entry_at, entry_in};
 
@@ -7,7 +7,7 @@ use crate::tags::{Wanted, name_tag};
 use crate::{DirBlocks, entry};
 use ods_base::{Block, FileId, Name, Pick};
 
-/// An entry that has the name: its position in the directory, its file and its version.
+/// An entry of the name: its position in the directory, its file and its version.
 #[derive(Clone, Copy, Debug, PartialEq, Eq)]
 pub struct Found {
     pub position: u64,
@@ -15,7 +15,7 @@ pub struct Found {
     pub version: u16,
 }
 
-/// The entry that is meant, so far.
+/// The selected entry, as far as the pass has read.
 #[derive(Clone, Copy, Debug, PartialEq, Eq)]
 pub struct Search {
     pub name: Name,
@@ -26,7 +26,7 @@ pub struct Search {
 impl Search {
     ghost use Rattle.ods_directory.specs.Search.{is_better};
 
-    /// Nothing found so far.
+    /// Starts a search without a result.
     pub fn of(name: Name, pick: Pick) -> Search
         ensures { result ≡ record { name = name; pick = pick; found = None } }
     {
@@ -91,7 +91,7 @@ impl Pass for Search {
 
 ghost use Rattle.ods_directory.specs.Search.{IsFound};
 
-/// The entry before the mark that a name with a pick means, if there is one.
+/// Returns the entry before the end mark that a name with a pick selects, if there is one.
 pub fn find_entry<B: DirBlocks>(blocks: &B, mark: u64, name: &Name, pick: Pick) -> Option<Found>
     requires { mark ≤ 512 * length (B.blocks blocks.now) }
     ensures found { IsFound (entry_at (B.blocks blocks.now)) (mark / 16) name.now pick result }

@@ -1,4 +1,4 @@
-//! The slot of the next name of a directory.
+//! The slot for the next name of a directory.
 ghost use Rattle.std.specs.Prelude.{◌≡◌, ◌*◌, ◌/◌, ◌<◌, ◌≤◌, false, length};
 ghost use Rattle.std.specs.Option.{ForSome};
 ghost use Rattle.ods_base.specs.{Block.IsBlock, Image.block_at};
@@ -7,7 +7,7 @@ ghost use Rattle.ods_directory.specs.{First.slot_of, Mark.IsSlot, Names.IsDirect
 use crate::first::{Kind, first_entry};
 use crate::{DirBlocks, Slot};
 
-/// Where the next name is entered: the first empty entry before the mark, or else the entry at the mark.
+/// Returns the slot for the next name: the first empty entry before the end mark, or otherwise the entry at the mark.
 pub fn slot_for<B: DirBlocks>(blocks: &B, mark: u64) -> Slot
     requires directory { IsDirectory (B.blocks blocks.now) mark }
     requires mark { mark ≤ 512 * length (B.blocks blocks.now) }
@@ -17,7 +17,8 @@ pub fn slot_for<B: DirBlocks>(blocks: &B, mark: u64) -> Slot
     slot_at(empty, mark, blocks.count())
 }
 
-/// Where a name is entered, by the first empty entry before the mark, and that the position is in a whole block.
+/// Returns the slot for a name, from the first empty entry before the end mark. If the slot does not grow, the directory has a whole block at its
+/// position.
 pub fn slot_in<B: DirBlocks>(blocks: &B, mark: u64, empty: Option<u64>) -> Slot
     requires empty { ForSome empty (λ k. k < mark / 16) }
     requires mark { mark ≤ 512 * length (B.blocks blocks.now) }

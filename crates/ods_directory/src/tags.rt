@@ -1,4 +1,4 @@
-//! Tags of entries: 16 bits each, by which a pass tells most blocks that have nothing for it.
+//! Tags of entries: 16 bits each. With them a pass skips most blocks that have no entry for it.
 ghost use Rattle.std.specs.Prelude.{◌≡◌, ◌≢◌, ◌<◌, ℕ, false, slice_index};
 ghost use Rattle.std.specs.List.{All};
 ghost use Rattle.ods_base.specs.Name.{IsName};
@@ -11,7 +11,7 @@ use ods_base::{Block, Name, word};
 /// The tags of the entries of a block.
 pub type Tags = [u16; 32];
 
-/// Which entries a pass wants: all, or those with one of two tags.
+/// The entries that a pass needs: all, or the entries with one of two tags.
 #[derive(Clone, Copy, Debug, PartialEq, Eq)]
 pub struct Wanted {
     pub all: bool,
@@ -56,7 +56,7 @@ fn tag_of(block: &Block, k: usize) -> u16
     )
 }
 
-/// The tags of the entries of a block.
+/// Returns the tags of the entries of a block.
 pub fn block_tags(block: &Block) -> Tags
     ensures { result ≡ block_tags block.now }
 {

@@ -1,4 +1,4 @@
-//! Whether two names of a directory are one.
+//! Two names of a directory that are equal.
 ghost use Rattle.std.specs.Prelude.{◌≡◌, ◌*◌, ◌≤◌, length, IfOk, MatchBool};
 ghost use Rattle.std.specs.List.Sorted.{IsPermutation};
 ghost use Rattle.ods_directory.specs.{Entry.used_entries, Names.AreDistinct, Names.HasTwins, Lines.IsInOrder, Lines.HasTwinNeighbours, Lines.HasNoTwinNeighbours};
@@ -7,8 +7,8 @@ use crate::DirBlocks;
 use crate::lines::{Key, read_rows};
 use std::alloc::{AllocError, Global};
 
-/// Whether two used entries before the mark have one name, type and version, be the entries good or not. An error is for memory: ten bytes
-/// for each used entry.
+/// Returns whether two used entries before the end mark have the same name, type and version. The entries need not be valid. The only error is out of
+/// memory; it needs ten bytes for each used entry.
 pub fn has_twins<B: DirBlocks>(alloc: Global, blocks: &B, mark: u64) -> Result<bool, AllocError>
     requires { mark ≤ 512 * length (B.blocks blocks.now) }
     ensures { IfOk result (λ twins. MatchBool twins (HasTwins (used_entries (B.blocks blocks.now) mark)) (AreDistinct (used_entries (B.blocks blocks.now) mark))) }

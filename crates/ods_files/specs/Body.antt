@@ -1,4 +1,4 @@
--- The bytes of a file: those of its blocks, one block after another, all of them or as many as its attributes say.
+-- The bytes of a file: the bytes of its blocks in order, all of them or up to the end of file in its attributes.
 use Rattle.std.specs.Prelude.{◌≡◌, ℕ, ◌+◌, ◌-◌, ◌*◌, ◌==◌, nat_le, nat_lt, Bool, List, [], length, map, take, Option, Some, None, if◌then◌else◌}
 use Rattle.std.specs.List.{list_all}
 use Rattle.std.specs.Option.{option_map}
@@ -24,7 +24,7 @@ pub record Body : Type 0 where
   pub blocks : List (List ℕ)
   pub attributes : List ℕ
 
--- the block at this LBN, or zeros where it lies past the image
+-- the block at this LBN, or zeros if it is past the image
 abbrev pub block_or_zeros : List (List ℕ) → ℕ → List ℕ
 block_or_zeros I lbn = if nat_lt lbn (length I) then block_at I lbn else zeros
 
@@ -43,27 +43,29 @@ pub record HasBody (I : List (List ℕ)) (L : VolumeLayout) (n : ℕ) (body : Bo
   pub blocks : body.blocks ≡ contents_of I lbns
   pub attributes : body.attributes ≡ attributes_of (header_at I L n)
 
--- The blocks of file n whose headers are there, with zeros for those past the image: all where the chain is whole. Its first header has these attributes.
+-- The blocks of file n whose headers exist, with zeros for the blocks past the image: all blocks if the chain is whole. Its first header has these
+-- attributes.
 pub record HasPart (I : List (List ℕ)) (L : VolumeLayout) (n : ℕ) (body : Body) (whole : Bool) : Type 0 where
   pub lbns : List ℕ
   pub reached : ReachesBy I L n lbns whole
   pub blocks : body.blocks ≡ padded I lbns
   pub attributes : body.attributes ≡ attributes_of (header_at I L n)
 
--- why there is no body: the number is no file, or its chain is not whole, or memory is wanted
+-- why there is no body: the number is not a file, or its chain is not whole, or out of memory
 abbrev pub IsFileFault : List (List ℕ) → VolumeLayout → ℕ → FileFault → Type 0
 IsFileFault I L n NoSuchFile = ¬ IsFile I L n
 IsFileFault I L n (Chain fault) = IsFile I L n × IsChainFault I L n fault
 
--- the end of file in bytes: byte F.FFBY of block F.EFBK, counted from 1, and 0 where F.EFBK is 0
+-- the end of file in bytes: byte F.FFBY of block F.EFBK, counted from 1, and 0 if F.EFBK is 0
 abbrev pub end_of : List ℕ → ℕ
 end_of attributes = if end_block attributes == 0 then 0 else (end_block attributes - 1) * 512 + end_byte attributes
 
--- nothing was ever written into the attributes
+-- the attributes were never written
 abbrev pub are_zeros : List ℕ → Bool
 are_zeros attributes = list_all (λ b. b == 0) attributes
 
--- The bytes of a file in a form: raw those of all blocks; binary those up to the end of file, of which there are none where that lies past the blocks, and all where the attributes are zeros.
+-- The number of bytes of a file in a form. Raw counts all blocks. Binary counts up to the end of file: there is none if it is past the blocks, and
+-- all blocks count if the attributes are zeros.
 abbrev pub size_in : Form → Body → Option ℕ
 size_in Raw body = Some (512 * length body.blocks)
 size_in Binary body =
@@ -71,11 +73,12 @@ size_in Binary body =
     else if nat_le (end_of body.attributes) (512 * length body.blocks) then Some (end_of body.attributes)
     else None
 
--- the bytes of a file in this form, where it has that form
+-- the bytes of a file in this form, if it has that form
 abbrev pub bytes_in : Form → Body → Option (List ℕ)
 bytes_in form body = option_map (λ size. take size (image_bytes body.blocks)) (size_in form body)
 
--- Why the bytes were not written, by what the writer had and has: there is no end of file within the blocks, and it has nothing more; or it failed, and took so many of them.
+-- Why the bytes were not written, by the contents of the writer before and after. There is no end of file within the blocks, and the contents are
+-- unchanged; or the writer failed, and took `fault.written` bytes.
 abbrev pub IsCopyFault : Form → Body → Option (List ℕ) → Option (List ℕ) → CopyFault → Type 0
 IsCopyFault form body old new EndPastBlocks = (bytes_in form body ≡ None) × Appends old new []
 IsCopyFault form body old new (Write fault) = (bytes : List ℕ) × (bytes_in form body ≡ Some bytes) × TookBytes old new bytes fault.written

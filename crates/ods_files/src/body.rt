@@ -1,4 +1,4 @@
-//! The body of a file: its blocks where they stand in the image, and how far its bytes go.
+//! The body of a file: its blocks in the image, without copies, and the size of its bytes.
 ghost use Rattle.std.specs.Prelude.{◌≡◌, ◌≢◌, ◌⊎◌, ◌*◌, ◌≤◌, length, ℕ, List, Some, None, IfSome, IfNone, IfOk, IfErr, MatchBool, OnOk};
 ghost use Rattle.std.specs.Io.KnownBytes.{Appends};
 ghost use Rattle.ods_space.specs.Files.{FindsFiles, IsFile};
@@ -16,7 +16,7 @@ use std::alloc::{AllocError, Global};
 use std::io::Write;
 use std::marker::Model;
 
-/// The blocks of a file, by their LBNs, and the attributes of its first header. The image may be one that is refused.
+/// The blocks of a file, by their LBNs, and the attributes of its first header. The image may be a refused one.
 #[derive(Drop)]
 pub struct FileBody<'a> {
     image: &'a Image,
@@ -39,9 +39,8 @@ impl<'a> Model for FileBody<'a> {
 impl<'a> FileBody<'a> {
     ghost use Rattle.ods_space.specs.Disks.{on};
 
-    /// The body of a file, where its own chain is whole.
-    /// INDEXF.SYS and directories have bodies too.
-    /// A number that is no file is refused with `NoSuchFile`, and else the fault is that of its chain.
+    /// Returns the body of a file whose own chain is whole. INDEXF.SYS and directories have bodies too. The fault is `NoSuchFile` if the number is
+    /// not a file. Otherwise it is the fault of its chain, or out of memory.
     pub fn open(alloc: Global, disk: &Disk<'a>, number: u16) -> Result<FileBody<'a>, FileFault>
         requires { on FindsFiles disk.now }
         ensures ok { IfOk result (on HasBody disk.now number) }
@@ -62,8 +61,8 @@ impl<'a> FileBody<'a> {
         }
     }
 
-    /// What is there of a file, be its chain whole or not, and whether it is: the blocks whose headers are there, with zeros for those past the image.
-    /// There is nothing where the number is no file, or is that of INDEXF.SYS, by which headers are found.
+    /// Returns the existing part of a file, and whether its chain is whole. The part is the blocks whose headers exist, with zeros for the blocks
+    /// past the image. It returns `None` if the number is not a file, or is the number of INDEXF.SYS, by which headers are found.
     pub fn open_part(
         alloc: Global,
         disk: &Disk<'a>,
@@ -89,7 +88,7 @@ impl<'a> FileBody<'a> {
         Ok(Some((body, reached.is_whole)))
     }
 
-    /// The body of the blocks at these LBNs, in this order, with these attributes. Zeros stand for a block past the image.
+    /// Returns the body of the blocks at these LBNs, in this order, with these attributes. A block past the image counts as zeros.
     pub fn of_blocks(image: &'a Image, lbns: Vec<u32>, attributes: [u8; 32]) -> FileBody<'a>
         requires { length lbns.items ≤ chain_blocks }
         ensures { result ≡ body_at image.now lbns.items attributes }
@@ -101,28 +100,28 @@ impl<'a> FileBody<'a> {
         }
     }
 
-    /// How many blocks there are.
+    /// Returns the number of blocks.
     pub fn block_count(&self) -> u32
         ensures { result ≡ length self.now.blocks }
     {
         self.lbns.len() as u32
     }
 
-    /// The attributes of the first header.
+    /// Returns the attributes of the first header.
     pub fn attributes(&self) -> [u8; 32]
         ensures { result ≡ self.now.attributes }
     {
         self.attributes
     }
 
-    /// Whether nothing was ever written into the attributes: all 32 bytes are zeros.
+    /// Returns whether the attributes were never written: all 32 bytes are zeros.
     pub fn has_no_attributes(&self) -> bool
         ensures { result ≡ are_zeros self.now.attributes }
     {
         self.attributes.iter().all(|byte| *byte == 0)
     }
 
-    /// How many bytes there are in this form. There is none where the end of file lies past the blocks.
+    /// Returns the number of bytes in this form, or `None` if the end of file is past the blocks.
     pub fn size(&self, form: Form) -> Option<u64>
         ensures { result ≡ size_in form self.now }
     {
@@ -141,7 +140,8 @@ impl<'a> FileBody<'a> {
         }
     }
 
-    /// Writes the bytes in this form, in order, in pieces of 64 KiB. A write of 0 bytes is one that failed.
+    /// Writes the bytes in this form, in order, in pieces of 64 KiB. A write of 0 bytes counts as failed. If the end of file is past the blocks, the
+    /// fault is `EndPastBlocks`, and nothing is written.
     pub fn write_to<W: Write>(&self, form: Form, writer: &mut W) -> Result<(), CopyFault>
         ensures ok { OnOk result ((bytes : List ℕ) × (bytes_in form self.now ≡ Some bytes) × Appends (W.contents writer.old) (W.contents writer.new) bytes) }
         ensures err { IfErr result (IsCopyFault form self.now (W.contents writer.old) (W.contents writer.new)) }
@@ -155,7 +155,8 @@ impl<'a> FileBody<'a> {
         }
     }
 
-    /// Whether the bytes in this form are those of another file in that form. A form without bytes is like no other but one without. Nothing is copied.
+    /// Returns whether the bytes in this form equal the bytes of another file in its form. If neither has bytes in its form, they are equal; if only
+    /// one has, they differ. Nothing is copied.
     pub fn is_same(&self, form: Form, other: &FileBody<'_>, other_form: Form) -> bool
         ensures { MatchBool result (bytes_in form self.now ≡ bytes_in other_form other.now) (bytes_in form self.now ≢ bytes_in other_form other.now) }
     {
@@ -173,7 +174,7 @@ impl<'a> FileBody<'a> {
         }
     }
 
-    /// The bytes in this form, in memory. There are none where the end of file lies past the blocks.
+    /// Reads the bytes in this form into memory, or returns `None` if the end of file is past the blocks.
     pub fn read(&self, alloc: Global, form: Form) -> Result<Option<Vec<u8>>, AllocError>
         ensures some { IfOk result (λ read. IfSome read (λ bytes. bytes_in form self.now ≡ Some bytes.items)) }
         ensures none { IfOk result (λ read. IfNone read (bytes_in form self.now ≡ None)) }

@@ -1,4 +1,4 @@
-//! Whether the first bytes of blocks are those of other blocks. Blocks are compared where they stand, and none is copied.
+//! The comparison of the first bytes of two lists of blocks. The blocks are compared in their images, and none is copied.
 ghost use Rattle.std.specs.Prelude.{◌≡◌, ◌≢◌, ◌*◌, ◌≤◌, MatchBool, length, take};
 ghost use Rattle.ods_base.specs.Image.{image_bytes};
 ghost use Rattle.ods_files.specs.Body.{padded};
@@ -6,8 +6,8 @@ ghost use Rattle.ods_files.specs.Body.{padded};
 use crate::sending::block_or_zeros;
 use ods_base::{Block, Image};
 
-/// Whether two lists of blocks begin with the same bytes. Of the first list `size` bytes count, and of the other `other_size`. A block past its image counts
-/// as zeros.
+/// Returns whether the first `size` bytes of one list of blocks equal the first `other_size` bytes of another. A block past its image counts as
+/// zeros.
 pub(crate) fn have_same_sized(
     image: &Image,
     lbns: &[u32],

@@ -1,23 +1,23 @@
-//! Why a file has no bytes to be got out, and why they were not written.
+//! The reasons why a file has no bytes, and why they were not written.
 use ods_base::WriteFault;
 use ods_space::ChainFault;
 use thiserror::Error;
 
-/// Why a number has no blocks.
+/// The reason why a number has no body.
 #[derive(Clone, Copy, Debug, PartialEq, Eq, Error)]
 pub enum FileFault {
-    /// It is no file.
+    /// The number is not a file.
     #[error("NoSuchFile")]
     NoSuchFile,
-    /// Its chain is not whole, or memory was refused.
+    /// The chain of the file is not whole, or the allocator refused memory.
     #[error("{0}")]
     Chain(ChainFault),
 }
 
-/// Why the bytes of a file were not written, or not all.
+/// The reason why the bytes of a file were not written, or not all.
 #[derive(Clone, Copy, Debug, PartialEq, Eq, Error)]
 pub enum CopyFault {
-    /// The end of file lies past the blocks. Nothing was written.
+    /// The end of file is past the blocks. Nothing was written.
     #[error("EndPastBlocks")]
     EndPastBlocks,
     /// The writer failed.

@@ -1,10 +1,10 @@
-//! The forms in which a file is got out.
+//! The forms in which a file is extracted.
 
-/// Which bytes of a file are meant.
+/// The choice of the bytes of a file.
 #[derive(Clone, Copy, Debug, PartialEq, Eq)]
 pub enum Form {
-    /// Up to the end of file; all where the attributes are zeros.
+    /// The bytes up to the end of file, or all bytes if the attributes are zeros.
     Binary,
-    /// Those of all blocks.
+    /// The bytes of all blocks.
     Raw,
 }

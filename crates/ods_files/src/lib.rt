@@ -1,4 +1,4 @@
-//! The files of a volume, for programs that get them out: the bytes of a file, by its blocks and its attributes.
+//! The files of a volume, for programs that extract them: the bytes of a file, by its blocks and its attributes.
 #![tactic(auto)]
 
 mod body;

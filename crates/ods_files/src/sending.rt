@@ -1,4 +1,5 @@
-//! The first bytes of some blocks of an image, one block after another, with zeros for those past it: to a writer, in pieces of 64 KiB, or behind others in memory.
+//! The first bytes of some blocks of an image, in order, with zeros for the blocks past it: written to a writer in pieces of 64 KiB, or appended in
+//! memory.
 ghost use Rattle.std.specs.Prelude.{◌≡◌, ◌+◌, ◌*◌, ◌^◌, ◌<◌, ◌≤◌, ◌++◌, ℕ, List, Option, length, take, OnOk, IfOk, IfErr};
 ghost use Rattle.std.specs.Io.KnownBytes.{Appends};
 ghost use Rattle.ods_base.specs.{Block.zeros as zeros_are, Image.image_bytes, Image.TookBytes};
@@ -10,8 +11,8 @@ use ods_base::{Block, Image, PIECE, WriteFault, write_piece};
 use std::alloc::AllocError;
 use std::io::Write;
 
-/// Writes the first `size` bytes of the blocks at these LBNs, by its own loop over `write`. A fault says how many bytes the writer took
-/// before.
+/// Writes the first `size` bytes of the blocks at these LBNs, by its own loop over `write`. The fault has the number of bytes that the writer took
+/// before it.
 pub(crate) fn send_first<W: Write>(
     image: &Image,
     lbns: &[u32],
@@ -106,7 +107,7 @@ fn hold_back(piece: &mut ArrayVec<u8, PIECE>, block: &Block, count: usize)
     let _ = piece.try_extend_from_slice(&block.bytes()[..count]);
 }
 
-/// Puts the first `size` bytes of the blocks at these LBNs behind these. After an `Err` some of them may be there.
+/// Appends the first `size` bytes of the blocks at these LBNs to `bytes`. After an error some of them may be appended.
 pub(crate) fn push_first(
     image: &Image,
     lbns: &[u32],
@@ -128,7 +129,7 @@ pub(crate) fn push_first(
     Ok(())
 }
 
-/// The block at this LBN, or these zeros where it lies past the image.
+/// Returns the block at this LBN, or these zeros if it is past the image.
 pub(crate) fn block_or_zeros<'a>(image: &'a Image, zeros: &'a Block, lbn: u32) -> &'a Block
     requires { zeros.now ≡ zeros_are }
     ensures { result.now ≡ block_or_zeros image.now lbn }

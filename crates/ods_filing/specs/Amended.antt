@@ -1,4 +1,4 @@
--- What changes that no request asks for do to a mounted volume: another owner or protection of a file, another label.
+-- The changes of a mounted volume that no request makes: another owner or protection of a file, another label.
 use Rattle.std.specs.Prelude.{◌≡◌, ℕ, List, Option}
 use Rattle.ods_base.specs.declared.file_id.FileId.{FileId}
 use Rattle.ods_base.specs.declared.file_id.Uic.{Uic}
@@ -8,7 +8,7 @@ use Rattle.ods_amend.specs.Label.{Relabels}
 use Rattle.ods_volume.specs.Amended.{IsWhyNotGiven as MayNotGive}
 use Rattle.ods_filing.specs.Filed.{Filed, disk_at}
 
--- the user has given the file this owner and this protection, each where it is given, and nothing else was done
+-- the user has set this owner and this protection of the file, each if given, with no other change
 pub record HasGiven (old : Filed) (id : FileId) (owner : Option Uic) (protection : Option ℕ) (new : Filed) : Type 0 where
   pub given : Gives (disk_at old) old.user id owner protection (disk_at new)
   pub user : new.user ≡ old.user
@@ -17,7 +17,7 @@ pub record HasGiven (old : Filed) (id : FileId) (owner : Option Uic) (protection
 abbrev pub IsWhyNotGiven : Filed → FileId → Refusal → Type 0
 IsWhyNotGiven f id reason = MayNotGive (disk_at f) f.user id reason
 
--- the volume has got this label, and nothing else was done
+-- the volume has this label, with no other change
 pub record HasGotLabel (old : Filed) (label : List ℕ) (new : Filed) : Type 0 where
   pub labelled : Relabels (disk_at old) label (disk_at new)
   pub user : new.user ≡ old.user

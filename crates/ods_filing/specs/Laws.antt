@@ -1,4 +1,4 @@
--- What is got out of a file that was put, over the definitions alone.
+-- The bytes that are extracted from a put file, over the definitions only.
 use Rattle.std.specs.Prelude.{◌≡◌, ℕ, ◌*◌, ◌^◌, ◌<◌, true, List, length, take, drop, Some}
 use Rattle.std.specs.FinMap as finmap
 use Rattle.ods_base.specs.declared.file_id.FileId.{FileId}
@@ -24,13 +24,13 @@ pub record ShowsBytes (I : List (List ℕ)) (L : VolumeLayout) (id : FileId) (at
   pub there : finmap.get catalogue.files id ≡ Some file
   pub body : file.body ≡ Plain attributes (blocks_with bytes)
 
--- the number has a body, and whatever body it has, its bytes up to the end of file are these
+-- the number has a body, and for each such body, its bytes up to the end of file are these
 pub record GivesBack (I : List (List ℕ)) (L : VolumeLayout) (n : ℕ) (attributes bytes : List ℕ) : Type 0 where
   pub body : Body
   pub has : HasBody I L n body
   pub gives : (other : Body) → HasBody I L n other → (other.attributes ≡ attributes) × (bytes_in Binary other ≡ Some bytes)
 
--- the attributes of a file of so many bytes in records of 512 bytes, and of one that holds variable records, each a line
+-- the attributes of a file of these bytes in records of 512 bytes, and of a file with variable records, each a line
 abbrev pub binary_of : List ℕ → List ℕ
 binary_of bytes = attributes 1 0 512 (length bytes)
 
@@ -42,7 +42,8 @@ abbrev pub BytesComeBack : Type 0
 BytesComeBack = (I : List (List ℕ)) (L : VolumeLayout) (id : FileId) (bytes : List ℕ) → length bytes < 512 * 2 ^ 20
     → ShowsBytes I L id (binary_of bytes) bytes → GivesBack I L id.number (binary_of bytes) bytes
 
--- A file that was put as the records of a plain text gives back what these records are written as. Its attributes say that these bytes are variable records; they spell some, and those that they spell, each with LF behind it, are the text.
+-- A file that was put as the records of a plain text gives back the bytes of these records. By its attributes these bytes are variable records. They
+-- spell some records, and the records that they spell, each followed by LF, are the text.
 abbrev pub TextComesBack : Type 0
 TextComesBack = (I : List (List ℕ)) (L : VolumeLayout) (id : FileId) (text bytes : List ℕ) (longest : ℕ) → length bytes < 512 * 2 ^ 20
     → IsPlainText text → IsWritten text bytes longest → ShowsBytes I L id (lines_of longest bytes) bytes
@@ -50,16 +51,17 @@ TextComesBack = (I : List (List ℕ)) (L : VolumeLayout) (id : FileId) (text byt
     × ((records : List (List ℕ)) × Spells Variable bytes records)
     × ((records : List (List ℕ)) → Spells Variable bytes records → text_of records ≡ text)
 
--- the attributes of others, for a file of these bytes
+-- the attributes of another file, for a file of these bytes
 abbrev pub formed_as : List ℕ → List ℕ → List ℕ
 formed_as own bytes = ending_at own (length bytes)
 
--- A file that was put as bytes with the attributes of others, but for F.HIBK, F.EFBK and F.FFBY, gives these bytes back, and all other attributes are those.
+-- A file that was put as bytes with the attributes of another file, except F.HIBK, F.EFBK and F.FFBY, gives these bytes back. All other attributes
+-- are unchanged.
 abbrev pub FormComesBack : Type 0
 FormComesBack = (I : List (List ℕ)) (L : VolumeLayout) (id : FileId) (own bytes : List ℕ) → length own ≡ 32 → length bytes < 512 * 2 ^ 20 → ShowsBytes I L id (formed_as own bytes) bytes
     → GivesBack I L id.number (formed_as own bytes) bytes × (take 4 (formed_as own bytes) ≡ take 4 own) × (drop 14 (formed_as own bytes) ≡ drop 14 own)
 
--- Records that are got as lines without a word, and put again as a text, are the records of the new file, and it has no others.
+-- Records that are extracted as lines without an option, and put again as a text, are the records of the new file, and it has no others.
 abbrev pub ChosenComesBack : Type 0
 ChosenComesBack = (I : List (List ℕ)) (L : VolumeLayout) (id : FileId) (kind : RecordKind) (old bytes : List ℕ) (records : List (List ℕ)) (new : List ℕ) (longest : ℕ) → length new < 512 * 2 ^ 20
     → Spells kind bytes records → come_as_lines old records ≡ true → IsWritten (text_of records) new longest → ShowsBytes I L id (lines_of longest new) new

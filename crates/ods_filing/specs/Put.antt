@@ -1,4 +1,4 @@
--- A file that is put into a volume: its blocks, and what the volume shows then.
+-- A file that is put into a volume: its blocks, and the catalogue afterwards.
 use Rattle.std.specs.Prelude.{◌≡◌, ℕ, ◌+◌, ◌-◌, ◌*◌, ◌/◌, List, ◌++◌, length, map, take, drop, replicate, None}
 use Rattle.std.specs.List.{range_with_len}
 use Rattle.std.specs.FinMap as finmap
@@ -12,11 +12,11 @@ use Rattle.ods_state.specs.Contents.{ShowsBy}
 use Rattle.ods_filing.specs.declared.put.NewFile.{NewFile}
 use Rattle.ods_filing.specs.Filed.{Filed}
 
--- how many blocks these bytes take
+-- the number of blocks for these bytes
 abbrev pub block_count : List ℕ → ℕ
 block_count bytes = (length bytes + 511) / 512
 
--- their block k, counted from 0: 512 of them, with zeros behind the last
+-- their block k, counted from 0: 512 bytes, padded with zeros
 abbrev pub block_with : List ℕ → ℕ → List ℕ
 block_with bytes k = take 512 (drop (512 * k) bytes ++ zeros)
 
@@ -24,11 +24,11 @@ block_with bytes k = take 512 (drop (512 * k) bytes ++ zeros)
 abbrev pub blocks_with : List ℕ → List (List ℕ)
 blocks_with bytes = map (block_with bytes) (range_with_len 0 (block_count bytes))
 
--- k of them are written, and the others up to so many are zeros
+-- k of them are written, and the other blocks up to `count` are zeros
 abbrev pub so_far : List ℕ → ℕ → ℕ → List (List ℕ)
 so_far bytes count k = map (block_with bytes) (range_with_len 0 k) ++ replicate (count - k) zeros
 
--- what the header of a new file says of it
+-- the fields of the ident of a new file
 pub record Heading : Type 0 where
   pub name : RadName
   pub version : ℕ
@@ -48,7 +48,8 @@ file_with who protection h body = record {
   body = body;
 }
 
--- One file more: the blocks show each catalogue that they showed before with this file made, of the user that asks and of the default protection, under an ID that no file had.
+-- One more file: the blocks show each former catalogue with this file added, which belongs to the user and has the default protection, under an ID
+-- that no file had.
 pub record IsAdded (old : Filed) (h : Heading) (id : FileId) (body : Body) (new : Filed) : Type 0 where
   pub free : (C : Catalogue) → ShowsBy old.image old.layout C → finmap.get C.files id ≡ None
   pub shown : (C : Catalogue) → ShowsBy old.image old.layout C → ShowsBy new.image new.layout (created C id (file_with old.user C.default h body))

@@ -1,4 +1,4 @@
-//! Files put into a volume in one piece.
+//! Files put into a volume as one run of blocks.
 ghost use Rattle.std.specs.Prelude.{◌≡◌, ◌≢◌, ◌<◌, ◌≤◌, replicate, IfErr, IfOk, OnErr};
 ghost use Rattle.std.specs.List.{range_with_len};
 ghost use Rattle.ods_amend.specs.Runs.{IsLowestRun};
@@ -49,9 +49,9 @@ fn make_in_run(
     }
 }
 
-/// A new file with these bytes in one piece, as `put_file` puts it: its blocks are the lowest run of so many free ones, and its header says that it is contiguous,
-/// where it has any. ChainFull where one header cannot map so many blocks, VolumeFull where no run is long enough. After a refusal the volume may have the file
-/// in part, and blocks that count as taken: whoever wants all or nothing keeps a copy.
+/// Adds a new file with these bytes in one run of blocks, as `put_file` does. Its blocks are the lowest run of enough free blocks,
+/// and its header marks it as contiguous if it has any block. The refusal is ChainFull if one header cannot map so many blocks, and VolumeFull if no
+/// run is long enough. After a refusal the volume may have a part of the file, and blocks that count as in use: for all or nothing, keep a copy.
 pub fn put_contiguous(
     alloc: Global,
     filing: &mut Filing,

@@ -35,7 +35,7 @@ impl Model for Filing {
 }
 
 impl Filing {
-    /// The volume, for requests of a user. Where memory is refused, the volume is let go.
+    /// Takes a volume for the requests of a user. When out of memory, the volume is dropped.
     pub fn new(alloc: Global, volume: Mounted, user: Uic) -> Result<Filing, AllocError>
         ensures { IfOk result (λ f. f ≡ record { image = volume.image; layout = volume.layout; user = user }) }
     {
@@ -45,7 +45,7 @@ impl Filing {
         }
     }
 
-    /// One request. Refused, it changes nothing.
+    /// Carries out one request. If refused, it changes nothing.
     pub fn request(&mut self, request: &Request) -> Result<Answer, Refusal>
         // A version that is given is 1 to 32,767.
         requires { CanBeAsked request.now }
@@ -58,8 +58,9 @@ impl Filing {
         self.sound.request(self.user, request)
     }
 
-    /// Headers for so many files to come, of one header each: INDEXF.SYS gets those that it lacks, all at once, so that its last header gets as few
-    /// pointers for them as it can. Who makes many files asks for this first: each by itself would take a pointer. Refused, it changes nothing.
+    /// Prepares headers for `files` later files, of one header each. INDEXF.SYS gains the headers that it lacks, all at once, so that its last header
+    /// takes as few pointers for them as possible. Call this before the creation of many files: otherwise each takes a pointer. If refused, it
+    /// changes nothing.
     pub fn make_ready(&mut self, files: u32) -> Result<(), Refusal>
         // The blocks show the catalogues that they showed, and nothing else is done.
         ensures grown { OnOk result (HasGrown self.old (lacking self.old files) self.new) }
@@ -71,7 +72,7 @@ impl Filing {
         self.sound.grow_index(lacking)
     }
 
-    /// The user gives a file this owner and this protection word, each where it is given. Refused, it changes nothing.
+    /// Sets the owner and the protection word of a file, each if given, as the user. If refused, it changes nothing.
     pub fn set_access(
         &mut self,
         file: FileId,
@@ -86,7 +87,7 @@ impl Filing {
         self.sound.set_access(self.user, file, owner, protection)
     }
 
-    /// The user gives a file other characteristics of the user's, H.UCHA. Refused, it changes nothing.
+    /// Sets the user characteristics of a file, H.UCHA, as the user. If refused, it changes nothing.
     pub fn set_characteristics(&mut self, file: FileId, flags: u8) -> Result<(), Refusal>
         ensures given { OnOk result (HasCharacterised self.old file flags self.new) }
         ensures refused { IfErr result (IsWhyNotGiven self.old file) }
@@ -95,8 +96,8 @@ impl Filing {
         self.sound.set_characteristics(self.user, file, flags)
     }
 
-    /// Has the storage bitmap say of blocks that they are free, or that they are taken. Those that it frees no file may hold, and no home block may be looked
-    /// for there. It fails for want of memory alone, and then changes nothing.
+    /// Marks blocks, given by their LBNs, as free or in use in the storage bitmap. A block to free must belong to no file, and must not be a place
+    /// before the home block where a mount searches for one. It fails only when out of memory, and then changes nothing.
     pub fn mark_blocks(&mut self, blocks: &[u32], free: bool) -> Result<(), AllocError>
         requires { free ≡ true → All (IsLoose self.old.image self.old.layout) blocks.now }
         ensures marked { OnOk result (HasMarked self.old blocks.now free self.new) }
@@ -105,7 +106,7 @@ impl Filing {
         self.sound.mark_blocks(blocks, free)
     }
 
-    /// The volume gets another label. It fails for want of memory alone, and then changes nothing.
+    /// Sets the label of the volume. It fails only when out of memory, and then changes nothing.
     pub fn set_label(&mut self, label: &Label) -> Result<(), AllocError>
         ensures given { OnOk result (HasGotLabel self.old label.now self.new) }
         ensures unchanged { OnErr result (self.new ≡ self.old) }
@@ -113,21 +114,21 @@ impl Filing {
         self.sound.set_label(label)
     }
 
-    /// From now on requests are those of another user.
+    /// Sets the user of the next requests.
     pub fn set_user(&mut self, user: Uic)
         ensures { self.new ≡ for_another self.old user }
     {
         self.user = user;
     }
 
-    /// The volume as it is now, which is mounted and sound.
+    /// Returns the volume as it is now, which is mounted and sound.
     pub fn mounted(&self) -> &Mounted
         ensures { (result.now.image ≡ self.now.image) × (result.now.layout ≡ self.now.layout) }
     {
         self.sound.mounted()
     }
 
-    /// The image with its layout, as they are now.
+    /// Returns the image with its layout, as they are now.
     pub fn disk(&self) -> Disk<'_>
         ensures image { result.image.now ≡ self.now.image }
         ensures layout { result.layout.now ≡ self.now.layout }
@@ -136,21 +137,21 @@ impl Filing {
         self.sound.disk()
     }
 
-    /// How many blocks are free. They are counted for each block of the bitmap, so the bitmap is not read.
+    /// Returns the number of free blocks. They are counted for each block of the bitmap, so the bitmap is not read.
     pub fn free_count(&self) -> u32
         ensures { result ≡ length (free_blocks self.now.image self.now.layout) }
     {
         self.sound.free_count()
     }
 
-    /// The user that asks.
+    /// Returns the user of the requests.
     pub fn user(&self) -> Uic
         ensures { result ≡ self.now.user }
     {
         self.user
     }
 
-    /// The volume as it is now. It takes no memory.
+    /// Returns the volume as it is now. It takes no memory.
     pub fn into_mounted(self) -> Mounted
         ensures { (result.image ≡ self.image) × (result.layout ≡ self.layout) }
     {

@@ -1,4 +1,4 @@
-//! Requests made one after another on a mounted volume, and files put into it.
+//! Consecutive requests on a mounted volume, and files put into it.
 #![tactic(auto)]
 
 mod contiguous;

@@ -16,11 +16,11 @@ use crate::slices::{block_of, blocks_for};
 use ods_base::{FileId, MAX_BLOCKS, Name};
 use ods_request::{Answer, Refusal, Request, Stamp};
 
-/// A file to be put: the name, version and date that its header gets, its 32 bytes of user attributes, and its bytes.
+/// A file to be put: the name, version and date for its header, its 32 bytes of user attributes, and its bytes.
 #[derive(Drop)]
 pub struct NewFile<'a> {
     pub name: Name,
-    /// 1 to 32,767.
+    /// From 1 to 32,767.
     pub version: u16,
     pub stamp: Stamp,
     pub attributes: [u8; 32],
@@ -30,7 +30,7 @@ pub struct NewFile<'a> {
 /// How many blocks one request asks for at most.
 const MOST: usize = 65_535;
 
-/// Makes a file of the user, of this many blocks of zeros, of which one request asks for.
+/// Makes a file of the user, of this many blocks of zeros, by one request.
 pub(crate) fn make(
     filing: &mut Filing,
     file: &NewFile<'_>,
@@ -59,7 +59,7 @@ pub(crate) fn make(
     }
 }
 
-/// One request whose answer is not wanted.
+/// Carries out one request and drops its answer.
 pub(crate) fn obey(filing: &mut Filing, request: Request) -> Result<(), Refusal>
     requires { CanBeAsked request }
     ensures ok { OnOk result ((a : Answer) × IsDone filing.old request a filing.new) }
@@ -92,7 +92,7 @@ fn extend_to(filing: &mut Filing, id: FileId, first: usize, count: usize) -> Res
     Ok(())
 }
 
-/// Writes the bytes into the blocks of a new file, which has as many as they take.
+/// Writes the bytes into the blocks of a new file, which has enough blocks.
 pub(crate) fn fill(filing: &mut Filing, id: FileId, bytes: &[u8]) -> Result<(), Refusal>
     requires { block_count bytes.now ≤ MAX_BLOCKS }
     ensures ok { OnOk result ((old : Filed) (heading : Heading) → IsAdded old heading id (Plain (replicate 32 0) (zero_blocks (block_count bytes.now))) filing.old
@@ -117,9 +117,10 @@ pub(crate) fn fill(filing: &mut Filing, id: FileId, bytes: &[u8]) -> Result<(), 
     Ok(())
 }
 
-/// A new file with these bytes, under a new ID: of the user, of the default protection, with this name, version and date in its ident, these
-/// attributes, and as blocks the bytes, 512 each, with zeros behind the last. It is entered nowhere. A name of type DIR would make a
-/// directory. After a refusal the volume may have the file in part: whoever wants all or nothing keeps a copy.
+/// Adds a new file with these bytes, and returns its new ID. The file belongs to the user, and has the default protection, these attributes, and this
+/// name, version and date in its ident. Its blocks hold the bytes, 512 each, and the last block is padded with zeros. The file is entered in no
+/// directory. The name must not have type DIR, which would make a directory. After a refusal the volume may have a part of the file: for all or
+/// nothing, keep a copy.
 pub fn put_file(filing: &mut Filing, file: &NewFile<'_>) -> Result<FileId, Refusal>
     requires version { IsVersionNumber file.now.version }
     requires plain { file.now.name.ext ≢ directory_type }

@@ -4,14 +4,14 @@ ghost use Rattle.ods_filing.specs.Put.{block_with, block_count};
 
 use ods_base::Block;
 
-/// How many blocks these bytes take, 512 each.
+/// Returns the number of blocks for these bytes, 512 bytes each.
 pub fn blocks_for(bytes: &[u8]) -> usize
     ensures { result ≡ block_count bytes.now }
 {
     bytes.len().div_ceil(512)
 }
 
-/// Block k of these bytes, counted from 0, with zeros behind the last byte.
+/// Returns block `k` of these bytes, counted from 0. The last block is padded with zeros.
 pub(crate) fn block_of(bytes: &[u8], k: usize) -> Block
     requires { 512 * k ≤ length bytes.now }
     ensures { result ≡ block_with bytes.now k }

@@ -4,7 +4,7 @@ use Rattle.ods_base.specs.Block.{byte, word, sum_of}
 use Rattle.ods_header.specs.declared.header.Run.{Run}
 use Rattle.ods_header.specs.Header.{map_word, next_number_of, next_sequence_of, run_at, runs_of, used_words_of}
 
--- the runs of the first so many blocks: the last of them may be shorter than it was
+-- the runs of the first `count` blocks; the last run may be shorter than before
 abbrev pub first_runs : ℕ → List Run → List Run
 first_runs count [] = []
 first_runs count (r ∷ rs) =
@@ -12,7 +12,8 @@ first_runs count (r ∷ rs) =
     else if nat_le r.count count then r ∷ first_runs (count - r.count) rs
     else record { lbn = r.lbn; count = count } ∷ []
 
--- c is the header block b with these pointers, which are the first of its own, and no next header: M.USE, M.EFNU and M.EFSQ, the count of the last pointer, and the sum are made anew. Every other byte stays, those of the pointers that go too.
+-- c is the header block b with these pointers, which are the first of its own, and no next header. M.USE, M.EFNU and M.EFSQ, the count of the last
+-- pointer, and the checksum are new. Every other byte is unchanged, and so are the bytes of dropped pointers.
 pub record IsCutTo (b : List ℕ) (runs : List Run) (c : List ℕ) : Type 0 where
   pub size : length c ≡ length b
   pub pointers : runs_of c ≡ runs
@@ -24,7 +25,8 @@ pub record IsCutTo (b : List ℕ) (runs : List Run) (c : List ℕ) : Type 0 wher
       → (i < 2 * map_word b + 2) ⊎ (i ≡ 2 * map_word b + 6) ⊎ (i ≡ 2 * map_word b + 7) ⊎ (i ≡ 2 * map_word b + 9) ⊎ ((2 * map_word b + 10 ≤ i) × (i ≢ 2 * map_word b + 7 + 4 * length runs))
       → byte c i ≡ byte b i
 
--- The first so many blocks of header b take this many pointers, and the last of them has this count byte then: it maps all that it did, or fewer blocks. With no pointer it is the byte at the place where it would stand.
+-- The first `count` blocks of header b take this many pointers, and the last pointer then has this count byte. It maps all its blocks, or fewer. If
+-- no pointer is kept, this byte is M.LBSZ.
 abbrev pub IsCutEnd : List ℕ → ℕ → ℕ → ℕ → Type 0
 IsCutEnd b count pointers last =
     ((pointers ≤ length (runs_of b)) × (first_runs count (runs_of b) ≡ take pointers (runs_of b)) × (last ≡ byte b (2 * map_word b + 7 + 4 * pointers)))

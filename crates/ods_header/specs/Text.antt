@@ -9,12 +9,12 @@ use Rattle.ods_base.specs.declared.file_id.FileId.{FileId}
 use Rattle.ods_base.specs.declared.file_id.Uic.{Uic}
 use Rattle.ods_header.specs.declared.header.Header.{Header}
 
--- this many octal digits, zeros in front
+-- a number of octal digits of the given width, with leading zeros
 abbrev pub octal_digits : ℕ → ℕ → List ℕ
 octal_digits zero n = []
 octal_digits (suc width) n = octal_digits width (n / 8) ++ (48 + n % 8) ∷ []
 
--- a number in octal, without zeros in front
+-- a number in octal, without leading zeros
 abbrev pub octal : ℕ → List ℕ
 octal n = radix_digits 8 false n
 
@@ -34,13 +34,13 @@ run_text r = 32 ∷ decimal r.lbn ++ 43 ∷ decimal r.count
 abbrev pub name_part : Header → List ℕ
 name_part h = codes "HEADER " ++ file_id_text h.file ++ 32 ∷ ident_text h.ident
 
--- an owner, a protection in six digits, and both bytes of characteristics in three: [g,m] pppppp uuu,ccc
+-- an owner, a protection word of six digits, and both bytes of characteristics of three digits: [g,m] pppppp uuu,ccc
 abbrev pub owner_text : Uic → ℕ → ℕ → ℕ → List ℕ
 owner_text owner protection user system =
     codes " [" ++ octal owner.group ++ 44 ∷ octal owner.member ++ codes "] " ++ octal_digits 6 protection
     ++ 32 ∷ octal_digits 3 user ++ 44 ∷ octal_digits 3 system
 
--- those of a header
+-- the owner, protection and characteristics of a header
 abbrev pub owner_part : Header → List ℕ
 owner_part h = owner_text h.owner h.protection h.user_char h.system_char
 

@@ -1,4 +1,4 @@
-//! The last header of a chain that grows: it gets more pointers, and names a next header.
+//! The last header of a chain that grows: it receives more pointers and the number of the next header.
 ghost use Rattle.std.specs.Prelude.{◌≡◌, ℕ, ◌+◌, ◌*◌, ◌/◌, ◌≤◌, length};
 ghost use Rattle.std.specs.List.{All};
 ghost use Rattle.ods_base.specs.Block.{IsBlock};
@@ -10,8 +10,8 @@ use crate::pointers::write_pointers;
 use crate::sum::set_sum;
 use ods_base::{Block, FileId};
 
-/// The block of a header with these runs as pointers behind its own. Every byte but M.USE, the new pointers and the
-/// sum stays, so a valid header stays one.
+/// Returns the block of a header with these runs appended to its pointers. Only M.USE, the new pointers and the checksum change, so a valid header
+/// stays valid.
 pub fn append_runs(block: &Block, runs: &[Run]) -> Block
     requires layout { IsLaidOut block.now }
     requires room { length runs.now ≤ room_of block.now / 2 }
@@ -32,8 +32,8 @@ pub fn append_runs(block: &Block, runs: &[Run]) -> Block
     changed
 }
 
-/// The block of a header that names this header as the next one of its chain. Every byte but M.ERVN, M.EFNU, M.EFSQ
-/// and the sum stays, so a valid header stays one and keeps its pointers.
+/// Returns the block of a header whose next header is `next`. Only M.ERVN, M.EFNU, M.EFSQ and the checksum change, so a valid header stays valid and
+/// keeps its pointers.
 pub fn with_next(block: &Block, next: FileId) -> Block
     requires layout { IsLaidOut block.now }
     ensures block { IsBlock result }
@@ -59,8 +59,8 @@ fn link(next: FileId) -> [u8; 5]
     [0, number[0], number[1], sequence[0], sequence[1]]
 }
 
-/// The block of the last header of a chain that grows: as many of the runs as have room stand behind its pointers,
-/// and it names the first new header, unless its number is 0. A valid header stays one and keeps its other fields.
+/// Returns the last header of a chain after the chain grows. It appends as many of the runs as the header has room for. If the number of `next` is
+/// not 0, `next` becomes the next header. A valid header stays valid and keeps its other fields.
 pub fn grown_last(block: &Block, number: u16, runs: &[Run], next: FileId) -> Block
     requires valid { IsValidHeader block.now number }
     requires runs { All IsRun runs.now }

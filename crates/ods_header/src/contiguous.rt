@@ -1,16 +1,15 @@
-//! Whether a header says that its file's blocks are contiguous.
+//! The bit of a header that marks the blocks of its file as contiguous.
 ghost use Rattle.ods_base.specs.Block.{IsBlock};
 ghost use Rattle.ods_header.specs.Contiguous.{IsWithoutContiguous, KeepsAllButContiguous};
 
 use crate::sum::set_sum;
 use ods_base::Block;
 
-/// UC.CON of the user characteristics, H.UCHA: the blocks of the file stand one behind another.
+/// UC.CON of the user characteristics, H.UCHA: the blocks of the file are contiguous.
 pub const CONTIGUOUS: u8 = 128;
 
-/// The block of a header that does not say that its file's blocks are contiguous (UC.CON, bit 7 of the user
-/// characteristics), with its sum made anew. Every other byte stays, so a valid header stays one and keeps its other
-/// fields.
+/// Returns the block of a header with the contiguous bit cleared (UC.CON, bit 7 of the user characteristics) and a new checksum. Every other byte is
+/// unchanged, so a valid header stays valid and keeps its other fields.
 pub fn without_contiguous(block: &Block) -> Block
     ensures block { IsBlock result }
     ensures changed { IsWithoutContiguous block.now result }

@@ -7,10 +7,9 @@ use crate::map_area::{pointer_at, pointer_count};
 use crate::sum::set_sum;
 use ods_base::Block;
 
-/// The block of a header that keeps so many of the blocks that it maps, the first ones, and names no next header: the
-/// pointers behind the last of these blocks go, and the pointer that has it ends with it. A header that maps fewer
-/// blocks keeps all its pointers. Every byte but M.EFNU, M.EFSQ, M.USE, the count of the last pointer and the sum
-/// stays, so a valid header stays one.
+/// Returns the block of a header that keeps the first `count` of the blocks that it maps, and has no next header. Pointers past these blocks are
+/// dropped, and the last kept pointer ends with the last kept block. A header that maps fewer blocks keeps all its pointers. Only M.EFNU, M.EFSQ,
+/// M.USE, the count of the last pointer and the checksum change, so a valid header stays valid.
 pub fn cut_header(block: &Block, count: u32) -> Block
     requires { IsLaidOut block.now }
     ensures block { IsBlock result }

@@ -6,7 +6,7 @@ ghost use Rattle.ods_header.specs.Writing.{deleted};
 use crate::sum::set_sum;
 use ods_base::{Block, set_word};
 
-/// The block of a header after it is deleted: it keeps its bytes but for its number, which becomes 0, and its sum.
+/// Returns the block of a header after its deletion. Only its number, which becomes 0, and its checksum change.
 pub fn deleted_header(block: &Block) -> Block
     ensures block { IsBlock result }
     ensures value { result ≡ deleted block.now }

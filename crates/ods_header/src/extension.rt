@@ -9,8 +9,8 @@ use crate::{Header, Run, write_header};
 use arrayvec::ArrayVec;
 use ods_base::{Block, FileId};
 
-/// The block of a new extension header of the file with this first header: it has these pointers, at most 102, and
-/// names `next` as the header behind it. What is not named is zero.
+/// Returns the block of a new extension header for the file with the first header `first`. It has these pointers, at most 102, and `next` as its next
+/// header. It copies the owner, the protection and the ident of `first`. Characteristics and attributes are zero.
 pub fn extension_block(
     first: &Header,
     file: FileId,

@@ -1,4 +1,4 @@
-//! Why there is no header line.
+//! Why a header line cannot be made.
 ghost use Rattle.std.specs.Prelude.{◌≡◌};
 ghost use Rattle.ods_header.specs.{declared.fault.LineFault.TheVariants.NoMemory, Refusals.line_row};
 
@@ -7,13 +7,13 @@ use ods_base::{Coded, Row};
 use std::alloc::AllocError;
 use thiserror::Error;
 
-/// Why there is no header line.
+/// The reason why a header line cannot be made.
 #[derive(Clone, Copy, Debug, PartialEq, Eq, Error)]
 pub enum LineFault {
-    /// The block at the header's place is no such header.
+    /// The block at the LBN of the header is not a valid header of this number.
     #[error("{0}")]
     Header(HeaderFault),
-    /// A growth was refused.
+    /// The allocator refused memory.
     #[error("NoMemory")]
     NoMemory,
 }

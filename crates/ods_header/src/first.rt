@@ -8,8 +8,8 @@ use crate::{Header, write_header};
 use arrayvec::ArrayVec;
 use ods_base::{Block, FileId, Uic};
 
-/// The block of the first header of a new file: it has no pointer yet and names no next header. The header is valid,
-/// and its bytes from word 51 up to the sum are zeros.
+/// Returns the block of the first header of a new file, with no pointers and no next header. The header is valid, and its bytes from word 51 up to
+/// the checksum are zeros.
 pub fn first_block(
     file: FileId,
     owner: Uic,

@@ -1,4 +1,4 @@
-//! One line about a header, as it is printed.
+//! A printed line about a header.
 ghost use Rattle.std.specs.Prelude.{◌≡◌, ◌+◌, ◌≤◌, ◌++◌, IfOk, IfErr, OnOk};
 ghost use Rattle.arrayvec.specs.ArrayString.{array_string_len};
 ghost use Rattle.std.specs.String.{string_bytes};
@@ -10,9 +10,8 @@ use arrayvec::ArrayString;
 use ods_base::{Image, Uic, print_words};
 use std::alloc::{AllocError, Global};
 
-/// The line of one of the first 16 headers, which follow the index bitmap on the disk: its fields and its
-/// pointers as text, without a line feed. A block that the image lacks is read as zeros. A block that is no valid
-/// header of this number gives its first fault.
+/// Returns the line of one of the first 16 headers, which follow the index bitmap on the disk. The line has the fields and the pointers as text,
+/// without a line feed. A block that the image lacks is read as zeros. If the block is not a valid header of this number, it returns the first fault.
 pub fn header_line(
     alloc: Global,
     image: &Image,
@@ -136,8 +135,8 @@ fn push_octal(text: &mut ArrayString<6>, number: u16, digits: usize)
     }
 }
 
-/// The name and the version of an ident, from its 46 bytes: three name words, the type word and the version
-/// word. A word that spells nothing is `???`.
+/// Returns the name and the version of an ident, from its 46 bytes: three name words, the type word and the version word. A word that spells no
+/// characters is printed as `???`.
 pub fn print_ident(ident: &[u8; 46]) -> ArrayString<19>
     ensures { result.bytes ≡ ident_text ident.now }
 {

@@ -1,4 +1,4 @@
-//! How many blocks the pointers of a header name, summed over words of four bytes.
+//! The number of blocks that the pointers of a header map, added in units of four bytes.
 ghost use Rattle.std.specs.Prelude.{◌≡◌, ◌*◌, ◌≤◌, length};
 ghost use Rattle.ods_header.specs.Header.{IsLaidOut, blocks_of, runs_of};
 
@@ -6,8 +6,8 @@ use crate::header::HEADER_POINTERS;
 use crate::map_area::pointer_count;
 use ods_base::Block;
 
-/// How many blocks the retrieval pointers of a header name. In a long chain most headers are full: they get a loop of their own, whose
-/// length is known when it is compiled. The pointers name at most 26,112 blocks.
+/// Returns the number of blocks that the retrieval pointers of a header map, at most 26,112. A full header has its own loop, whose length is known at
+/// compile time, because most headers of a long chain are full.
 pub fn pointer_sum(header: &Block) -> u32
     requires { IsLaidOut header.now }
     ensures count { result ≡ length (blocks_of header.now) }

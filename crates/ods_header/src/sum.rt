@@ -1,4 +1,4 @@
-//! The sum of a header.
+//! The checksum of a header.
 ghost use Rattle.std.specs.Prelude.{◌≡◌};
 ghost use Rattle.ods_base.specs.Block.{IsBlock};
 ghost use Rattle.ods_header.specs.Writing.{with_sum};

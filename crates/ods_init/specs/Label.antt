@@ -3,7 +3,7 @@ use Rattle.std.specs.Prelude.{◌≡◌, IsTrue, ℕ, ◌-◌, Bool, ◌&&◌, �
 use Rattle.std.specs.List.{list_all}
 use Rattle.std.specs.Char.{to_ascii_uppercase, is_ascii_alphanumeric}
 
--- a character that may stand in a label
+-- a character that is valid in a label
 abbrev pub is_label_character : ℕ → Bool
 is_label_character c = is_ascii_alphanumeric c || (c == 46)
 
@@ -15,11 +15,11 @@ is_label_text text = nat_le 1 (length text) && (nat_le (length text) 12 && list_
 abbrev pub label_of : List ℕ → List ℕ
 label_of text = map to_ascii_uppercase text ++ replicate (12 - length text) 32
 
--- the label with zero bytes in place of the spaces behind it, which no other character is
+-- the label with zero bytes in place of its trailing spaces; no other character is a space
 abbrev pub zero_padded : List ℕ → List ℕ
 zero_padded label = map (λ c. if c == 32 then 0 else c) label
 
--- what each label is: 12 characters, which some text gives
+-- each label has 12 characters, and is the label of some text
 pub record IsLabel (label : List ℕ) : Type 0 where
   pub size : length label ≡ 12
   pub text : List ℕ

@@ -1,8 +1,8 @@
--- Where the structures of a new volume lie, and whether they fit.
+-- The LBNs and sizes of the structures of a new volume, and whether they fit.
 use Rattle.std.specs.Prelude.{◌≡◌, ℕ, ◌+◌, ◌*◌, ◌/◌, ◌^◌, ◌<◌, ◌≤◌, min, max, ◌==◌, if◌then◌else◌}
 use Rattle.ods_init.specs.declared.places.Places.{Places}
 
--- The greatest file number, H.FMAX: one for each block, which is the most files that the volume could ever have.
+-- The highest file number, H.FMAX: one for each block, which is the most files that the volume could ever have.
 abbrev pub most_files : ℕ → ℕ
 most_files blocks = min blocks 65535
 
@@ -18,7 +18,8 @@ map_blocks blocks = (blocks + 4095) / 4096
 abbrev pub index_blocks : ℕ → ℕ → ℕ
 index_blocks blocks files = 2 + index_bitmap_size blocks + max (files + 5) 16
 
--- The structures of a volume of so many blocks, with headers for so many files beside the five: INDEXF.SYS from LBN 0 on, then the storage control block, the storage bitmap and the master directory.
+-- The structures of a volume of `blocks` blocks, with headers for `files` files in addition to the five: INDEXF.SYS from LBN 0 on, then the storage
+-- control block, the storage bitmap and the master directory.
 abbrev pub places : ℕ → ℕ → Places
 places blocks files = record {
   most_files = most_files blocks;
@@ -33,7 +34,7 @@ pub record HasRoom (blocks files : ℕ) : Type 0 where
   pub index : index_blocks blocks files ≤ 26112
   pub master : index_blocks blocks files + 1 + map_blocks blocks < blocks
 
--- the structures of a volume of so many blocks stand one behind another inside it, and each is as large as it has to be
+-- the structures of a volume of `blocks` blocks follow consecutively inside it, and each is as large as it has to be
 pub record AreFit (blocks : ℕ) (P : Places) : Type 0 where
   pub size : blocks ≤ 2 ^ 20
   pub some : 1 ≤ P.index_bitmap_size
@@ -51,10 +52,12 @@ pub record AreFit (blocks : ℕ) (P : Places) : Type 0 where
 abbrev pub first_of : Places → ℕ → ℕ
 first_of p n = if n == 1 then 0 else if n == 2 then p.control else p.master
 
--- how many it has: INDEXF.SYS all before the storage control block, BITMAP.SYS that and the bitmap, the master directory one, the others none
+-- the number of its blocks: for INDEXF.SYS all before the storage control block, for BITMAP.SYS that block and the bitmap, for the master directory
+-- one, for the others none
 abbrev pub count_of : Places → ℕ → ℕ
 count_of p n = if n == 1 then p.control else if n == 2 then 1 + p.map_blocks else if n == 4 then 1 else 0
 
--- For how many files beside the five a volume of so many blocks has headers ready where nothing is said: one for each 16 blocks, and no more than INDEXF.SYS may have by one header.
+-- The default number of files in addition to the five, for a volume of `blocks` blocks: one for each 16 blocks, and no more than one header for
+-- INDEXF.SYS allows.
 abbrev pub default_of : ℕ → ℕ
 default_of blocks = min (blocks / 16) 26089

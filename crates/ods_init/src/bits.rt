@@ -4,7 +4,7 @@ ghost use Rattle.ods_init.specs.Blocks.{HasBits};
 
 use ods_base::{Block, set_bit};
 
-/// The block of which the bits from one on and before the other are set; those past its 4,096 are passed over.
+/// Returns the block whose bits from `from` on and before `end` are set. Bits past the 4,096 of a block are skipped.
 pub fn bits_between(from: u32, end: u32) -> Block
     ensures { HasBits result from end }
 {

@@ -1,4 +1,4 @@
-//! Volumes that can be made: how large each is, where its structures lie, and what it says.
+//! Volumes that can be made: their size, the LBNs of their structures, and their texts.
 use crate::{Label, Places};
 use ods_base::Uic;
 use ods_request::Stamp;
@@ -6,22 +6,22 @@ use ods_request::Stamp;
 /// A volume that can be made.
 #[derive(Clone, Copy)]
 pub struct Blueprint {
-    /// How many blocks it has.
+    /// The number of blocks.
     pub blocks: u32,
-    /// Where its structures lie.
+    /// The LBNs and sizes of its structures.
     pub places: Places,
     /// The owner of its reserved files.
     pub owner: Uic,
-    /// What it says to people and to RSX. A bare volume has none, and says only what a mount reads.
+    /// The label and the date of the volume. A bare volume has none, and stores only what a mount reads.
     pub details: Option<Details>,
-    /// Each byte of its free blocks.
+    /// The value of each byte of its free blocks.
     pub filling: u8,
 }
 
-/// What a volume says to people and to RSX.
+/// The label and the date of a volume, for people and for RSX.
 #[derive(Clone, Copy)]
 pub struct Details {
     pub label: Label,
-    /// When it was made.
+    /// The date and time of its creation.
     pub stamp: Stamp,
 }

@@ -1,4 +1,4 @@
-//! The storage control block, by which RSX knows the bitmap behind it.
+//! The storage control block, by which RSX knows the bitmap after it.
 ghost use Rattle.std.specs.Prelude.{◌≡◌, ◌≤◌, ◌<◌, ◌^◌};
 ghost use Rattle.ods_init.specs.Blocks.{IsControlBlock, counted, first_in, free_in};
 
@@ -8,9 +8,9 @@ use ods_base::{Block, set_word};
 /// The most blocks of a bitmap for which the control block has two words each.
 const MOST_COUNTED: u32 = 126;
 
-/// The storage control block. The low byte of the count of the bitmap's blocks comes first. For each of these blocks the count of free
-/// blocks follows, and the first of them. The size of the volume is last, its high word first. Where the bitmap has more than 126 blocks,
-/// nothing stands between.
+/// Returns the storage control block. Byte 3 is the low byte of the number of the bitmap's blocks. For each of these blocks two words follow: the
+/// number of free blocks, and the first free block. The size of the volume is last, its high word first. If the bitmap has more than 126 blocks, the
+/// pairs of words are left out.
 pub fn control_block(blocks: u32, places: Places) -> Block
     requires map { places.map_blocks ≤ 256 }
     requires master { places.master < 2 ^ 20 }

@@ -1,4 +1,4 @@
-//! Images of one byte, over and over.
+//! Images whose bytes all have one value.
 ghost use Rattle.std.specs.Prelude.{◌≡◌, ◌≤◌, ◌^◌, IfOk, replicate};
 
 use ods_base::Image;
@@ -6,7 +6,7 @@ use std::alloc::{AllocError, Global};
 use std::io;
 use std::io::Read;
 
-/// The image of so many blocks, each byte of which is this one. It takes no more memory than the image and a piece of 64 KiB.
+/// Returns the image of `blocks` blocks, whose bytes are all `byte`. It takes only the memory of the image and a piece of 64 KiB.
 pub fn filled_image(alloc: Global, blocks: u32, byte: u8) -> Result<Image, AllocError>
     requires { blocks ≤ 2 ^ 20 }
     ensures { IfOk result (λ image. image ≡ replicate blocks (replicate 512 byte)) }

@@ -21,7 +21,7 @@ struct HomeText {
     end: [u8; 24],
 }
 
-/// The home block: the index bitmap at LBN 2, and what people see of the volume.
+/// Returns the home block of a new volume. Its index bitmap is at LBN 2. It has the label, owner and date of the volume, if there are any.
 pub fn home_block(blueprint: &Blueprint) -> Block
     requires size { (1 ≤ blueprint.now.places.index_bitmap_size) × (blueprint.now.places.index_bitmap_size < 65536) }
     requires files { (1 ≤ blueprint.now.places.most_files) × (blueprint.now.places.most_files < 65536) }

@@ -19,7 +19,8 @@ use std::alloc::{AllocError, Global};
 /// The fewest blocks of a volume.
 const LEAST_BLOCKS: u32 = 40;
 
-/// The image of a sound new volume of five reserved files, and a master directory that names them.
+/// Returns the image of a new, sound volume with five reserved files, and a master directory with their names. The fault is the first of TooSmall,
+/// TooLarge and TooManyFiles that holds, or NoMemory.
 pub fn init(alloc: Global, volume: &NewVolume) -> Result<Image, InitFault>
     ensures sound { IfOk result IsSound }
     ensures new { IfOk result (IsNewVolume volume.now) }
@@ -50,7 +51,7 @@ pub fn init(alloc: Global, volume: &NewVolume) -> Result<Image, InitFault>
     }
 }
 
-/// The image of the volume of a blueprint, which is sound. Only memory can be wanting.
+/// Returns the image of the volume of a blueprint, which is sound. It fails only when out of memory.
 pub fn make_volume(alloc: Global, blueprint: &Blueprint) -> Result<Image, AllocError>
     requires { AreFit blueprint.now.blocks blueprint.now.places }
     ensures sound { IfOk result IsSound }

@@ -5,7 +5,7 @@ ghost use Rattle.ods_init.specs.Label.{is_label_character, is_label_text, label_
 
 use std::marker::Model;
 
-/// The label of a volume: 1 to 12 characters of A to Z, 0 to 9 and dots, and spaces behind them up to 12.
+/// The label of a volume: 1 to 12 characters of A to Z, 0 to 9 and dots, padded with spaces to 12.
 #[derive(Clone, Copy, Debug, PartialEq, Eq)]
 pub struct Label {
     text: [u8; 12],
@@ -25,7 +25,7 @@ impl Model for Label {
 }
 
 impl Label {
-    /// The label of a text of 1 to 12 letters, digits and dots. Small letters are made capitals.
+    /// Parses a text of 1 to 12 letters, digits and dots into a label. Small letters become capitals. Any other text gives `None`.
     pub fn parse(text: &str) -> Option<Label>
         ensures { SomeIff result (IsTrue (is_label_text text.now)) (label_of text.now) }
     {
@@ -41,7 +41,7 @@ impl Label {
         Some(Label { text: own })
     }
 
-    /// The 12 characters.
+    /// Returns the 12 characters.
     pub fn text(&self) -> &[u8; 12]
         ensures value { result.now ≡ self.now }
         ensures label { IsLabel self.now }
@@ -49,7 +49,7 @@ impl Label {
         &self.text
     }
 
-    /// The characters, with zero bytes in place of the spaces behind them.
+    /// Returns the characters, with zero bytes in place of the trailing spaces.
     pub(crate) fn zero_padded(&self) -> [u8; 12]
         ensures { result ≡ zero_padded self.now }
     {

@@ -1,4 +1,4 @@
-//! The law that a new volume is sound, over the definitions alone.
+//! The law that a new volume is sound, over the definitions only.
 ghost use Rattle.ods_init.specs.New.{NewIsSound};
 
 /// A new volume is sound.

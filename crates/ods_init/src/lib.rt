@@ -1,4 +1,4 @@
-//! New volumes: the image of a sound one with five reserved files, a master directory that names them, and the rest free.
+//! New volumes: the image of a sound volume with five reserved files, a master directory with their names, and the rest free.
 #![tactic(auto)]
 
 mod bits;

@@ -5,7 +5,7 @@ ghost use Rattle.ods_init.specs.Blocks.{master_block, reserved_entry, starting};
 use crate::reserved::reserved_name;
 use ods_base::Block;
 
-/// The master directory: the five reserved files under their names.
+/// Returns the master directory: the entries of the five reserved files.
 pub fn master_directory() -> Block
     ensures { result ≡ master_block }
 {

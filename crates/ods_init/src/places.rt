@@ -1,4 +1,4 @@
-//! Where the structures of a new volume lie.
+//! The LBNs and sizes of the structures of a new volume.
 ghost use Rattle.std.specs.Prelude.{◌≡◌, ◌≤◌, ◌^◌, MatchOption};
 ghost use Rattle.ods_init.specs.Places.{HasRoom, places};
 
@@ -8,22 +8,22 @@ use ods_header::HEADER_BLOCKS;
 /// The blocks that the one header of INDEXF.SYS can map.
 const MOST_INDEX_BLOCKS: u32 = HEADER_BLOCKS as u32;
 
-/// Where the structures of a new volume lie. INDEXF.SYS has the blocks from LBN 0 on, the index bitmap from LBN 2 on.
+/// The LBNs and sizes of the structures of a new volume. INDEXF.SYS has the blocks from LBN 0 on, and the index bitmap begins at LBN 2.
 #[derive(Clone, Copy)]
 pub struct Places {
-    /// The greatest file number, H.FMAX.
+    /// The highest file number, H.FMAX.
     pub most_files: u32,
-    /// The blocks of the index bitmap, H.IBSZ.
+    /// The number of blocks of the index bitmap, H.IBSZ.
     pub index_bitmap_size: u32,
-    /// The LBN of the storage control block, which is the first behind INDEXF.SYS.
+    /// The LBN of the storage control block, which is the first block after INDEXF.SYS.
     pub control: u32,
-    /// The blocks of the storage bitmap, behind it.
+    /// The number of blocks of the storage bitmap, which follows the storage control block.
     pub map_blocks: u32,
-    /// The LBN of the master directory, behind the bitmap. What follows is free.
+    /// The LBN of the master directory, after the bitmap. The blocks after it are free.
     pub master: u32,
 }
 
-/// The structures of a volume, where they fit into it, and the blocks of INDEXF.SYS into one header.
+/// Returns the structures of a volume. It returns `None` if they do not fit into the volume, or if INDEXF.SYS has more blocks than one header maps.
 pub fn places_of(volume: &NewVolume) -> Option<Places>
     requires { volume.now.blocks ≤ 2 ^ 20 }
     ensures { MatchOption result (¬ HasRoom volume.now.blocks volume.now.files)

@@ -11,13 +11,13 @@ use ods_base::{Block, DIRECTORY_TYPE, FileId, Name};
 use ods_header::{HEADER_POINTERS, HEADER_ROOM, Header, Run, write_header};
 use ods_request::new_ident;
 
-/// The protection of new files and of the reserved ones: the world may only read.
+/// The protection of new files and of the reserved files: the world may only read.
 pub const PROTECTION: u16 = 0o160000;
 
 /// The type SYS.
 const SYS: u16 = 31419;
 
-/// The name of the reserved file of a number.
+/// Returns the name of the reserved file with a number.
 pub fn reserved_name(number: u16) -> Name
     ensures { result ≡ reserved_name number }
 {
@@ -141,7 +141,7 @@ fn bare_ident(number: u16) -> [u8; 46]
     ]
 }
 
-/// The header of a reserved file.
+/// Returns the header of the reserved file with a number.
 pub fn header_block(blueprint: &Blueprint, number: u16) -> Block
     requires map { blueprint.now.places.map_blocks ≤ 256 }
     requires index { blueprint.now.places.control ≤ 26112 }

@@ -1,4 +1,4 @@
-//! The parameters of a new volume, and why no volume can be made of them.
+//! The parameters of a new volume, and the reasons why no volume can be made from them.
 ghost use Rattle.std.specs.Prelude.{◌≡◌, ◌≤◌, ◌^◌};
 ghost use Rattle.ods_init.specs.Places.{HasRoom, default_of};
 
@@ -7,40 +7,40 @@ use ods_base::Uic;
 use ods_request::Stamp;
 use thiserror::Error;
 
-/// What a new volume is to be.
+/// The parameters of a new volume.
 #[derive(Clone, Copy)]
 pub struct NewVolume {
-    /// How many blocks it has: 40 to 1,048,576.
+    /// The number of blocks: 40 to 1,048,576.
     pub blocks: u32,
-    /// For how many files beside the five reserved ones INDEXF.SYS has a header ready, at least; it has 16 headers in any case.
+    /// The number of files, in addition to the five reserved ones, for which INDEXF.SYS has a header ready, at least. INDEXF.SYS always has at least
+    /// 16 headers.
     pub files: u32,
     pub label: Label,
     /// The owner of the volume and of its reserved files.
     pub owner: Uic,
-    /// When it was made.
+    /// The date and time of its creation.
     pub stamp: Stamp,
 }
 
-/// Why there is no such volume.
+/// The reason why there is no such volume.
 #[derive(Clone, Copy, Debug, PartialEq, Eq, Error)]
 pub enum InitFault {
-    /// It has fewer than 40 blocks.
+    /// The volume has fewer than 40 blocks.
     #[error("a volume has at least 40 blocks")]
     TooSmall,
-    /// It has more than 1,048,576 blocks.
+    /// The volume has more than 1,048,576 blocks.
     #[error("a volume has at most 1048576 blocks")]
     TooLarge,
-    /// The headers and what else there has to be do not fit into the volume, or INDEXF.SYS would have more than 26,112 blocks, which is what one
-    /// header maps.
+    /// The structures with the headers do not fit into the volume, or INDEXF.SYS would have more than 26,112 blocks, the most that one header maps.
     #[error("too many files for the volume")]
     TooManyFiles,
-    /// Memory was refused.
+    /// The allocator refused memory.
     #[error("out of memory")]
     NoMemory,
 }
 
-/// For how many files beside the five a volume of so many blocks has headers ready where nothing is said: one for each 16 blocks, and at most
-/// the 26,089 that INDEXF.SYS may have by one header. They leave room for the rest in each volume.
+/// Returns the default of [`NewVolume::files`] for a volume of `blocks` blocks: one file for each 16 blocks, and at most 26,089, the limit of one
+/// header for INDEXF.SYS. The structures then fit into each volume of 40 to 1,048,576 blocks.
 pub fn default_files(blocks: u32) -> u32
     ensures default { result ≡ default_of blocks }
     ensures room { 40 ≤ blocks → blocks ≤ 2 ^ 20 → HasRoom blocks result }

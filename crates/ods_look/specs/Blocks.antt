@@ -6,11 +6,11 @@ use Rattle.ods_directory.specs.Tags.{AreTags}
 use Rattle.ods_mount.specs.Faults.{contents_of}
 use Rattle.ods_state.specs.declared.known_names.KnownNames.{KnownNames}
 
--- the blocks that the headers of file n name, one header after another
+-- the blocks that the headers of file n map, one header after another
 unfoldable pub blocks_in_order : List (List ℕ) → VolumeLayout → ℕ → List ℕ
 blocks_in_order I L n = named_by (headers_of I L n)
 
--- what is noted is of file n: these are its blocks in order, and the tags of the entries in each
+-- the notes are about file n: its blocks in order, and the tags of the entries in each
 abbrev pub AreInOrder : List (List ℕ) → VolumeLayout → ℕ → KnownNames → Type 0
 AreInOrder I L n names = (names.blocks.items ≡ blocks_in_order I L n) × AreTags (contents_of I (blocks_in_order I L n)) names.tags.items
 

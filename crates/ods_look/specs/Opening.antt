@@ -1,4 +1,4 @@
--- What is open to a user: the checks that requests on one file share, and what is known of a file that passes them.
+-- Opening for a user: the checks that requests on one file share, and the facts about a file that passes them.
 use Rattle.std.specs.Prelude.{◌≡◌, ◌*◌, ◌<◌, ◌≤◌, ℕ, Bool, true, false, not, nat_le, List, [], ◌∷◌, length, None, Some}
 use Rattle.std.specs.FinMap as map
 use Rattle.ods_base.specs.declared.file_id.FileId.{FileId}
@@ -17,23 +17,23 @@ use Rattle.ods_state.specs.Contents.{file_of, ShowsBy}
 use Rattle.ods_space.specs.Chain.{chain_blocks}
 use Rattle.ods_look.specs.declared.opening.OpenDirectory.{OpenDirectory}
 
--- rows of a table of refusals, by the file
+-- the rows of a table of refusals, for a file
 abbrev pub Rows : Type 0
 Rows = File → List (Bool × Refusal)
 
--- what a request on a plain file checks first: the number is above the reserved ones, and the file is no directory
+-- the first checks of a request on a plain file: its number is above the reserved ones, and it is not a directory
 abbrev pub kind_checks : FileId → ℕ → Rows → Rows
 kind_checks id reserved rest f = (nat_le id.number reserved, refusal.Reserved) ∷ (is_directory f.body, refusal.IsDirectory) ∷ rest f
 
--- the row of a right that the user has to have
+-- the row of a right that the user must have
 abbrev pub right_check : Uic → Right → Rows → Rows
 right_check who r rest f = (is_denied f who r, refusal.Denied) ∷ rest f
 
--- and what it checks where the user's right comes next, before the rows of its own
+-- the checks of a request on a plain file, with the check of the right, before its own rows
 abbrev pub plain_checks : FileId → ℕ → Uic → Right → Rows → Rows
 plain_checks id reserved who r rest = kind_checks id reserved (right_check who r rest)
 
--- what a request on a directory checks before the rows of its own: it is a directory, and the user has the right
+-- the checks of a request on a directory before its own rows: it is a directory, and the user has the right
 abbrev pub directory_checks : Uic → Right → Rows → Rows
 directory_checks who r rest d =
     (not (is_directory d.body), refusal.NotADirectory) ∷ (is_denied d who r, refusal.Denied) ∷ rest d
@@ -42,7 +42,7 @@ directory_checks who r rest d =
 abbrev pub block_check : ℕ → Rows
 block_check vbn f = (lacks_block f vbn, refusal.NoSuchBlock) ∷ []
 
--- the ID is that of a file
+-- a file has this ID
 abbrev pub IsFileId : List (List ℕ) → VolumeLayout → FileId → Type 0
 IsFileId I L id = IsFile I L id.number × (sequence_of (header_at I L id.number) ≡ id.sequence)
 
@@ -50,12 +50,12 @@ IsFileId I L id = IsFile I L id.number × (sequence_of (header_at I L id.number)
 abbrev pub file_shown : List (List ℕ) → VolumeLayout → FileId → List ℕ → File
 file_shown I L id blocks = file_of id.number (header_at I L id.number) (contents_of I blocks)
 
--- the catalogue has the file with these blocks, and it passes the checks: what is left is decided by the other rows
+-- the catalogue has the file with these blocks, and it passes the checks: only the other rows can refuse the request
 pub record PassesChecks (I : List (List ℕ)) (L : VolumeLayout) (id : FileId) (blocks : List ℕ) (checks : Rows → Rows) (C : Catalogue) : Type 0 where
   pub there : map.get C.files id ≡ Some (file_shown I L id blocks)
   pub left : (rest : Rows) → on_file (map.get C.files id) (checks rest) ≡ first_of (rest (file_shown I L id blocks))
 
--- by the catalogue that the blocks show, the checks end in this refusal, whatever the other rows are
+-- by the catalogue that the blocks show, the checks return this refusal for any other rows
 abbrev pub IsRefusedByChecks : List (List ℕ) → VolumeLayout → FileId → (Rows → Rows) → Refusal → Type 0
 IsRefusedByChecks I L id checks f = (C : Catalogue) (rest : Rows) → ShowsBy I L C → on_file (map.get C.files id) (checks rest) ≡ Some f
 
@@ -87,7 +87,7 @@ pub record IsOpenBlock (I : List (List ℕ)) (L : VolumeLayout) (id : FileId) (r
 abbrev pub IsRefusedBlock : List (List ℕ) → VolumeLayout → FileId → ℕ → Uic → Right → ℕ → Refusal → Type 0
 IsRefusedBlock I L id reserved who r vbn f = (C : Catalogue) → ShowsBy I L C → on_file (map.get C.files id) (plain_checks id reserved who r (block_check vbn)) ≡ Some f
 
--- this is directory n, with its first header, its blocks and its end mark
+-- opened is directory n, with its first header, its blocks and its end mark
 pub record IsDirectoryAt (I : List (List ℕ)) (L : VolumeLayout) (n : ℕ) (opened : OpenDirectory) : Type 0 where
   pub kind : is_directory_header n (header_at I L n) ≡ true
   pub header : opened.header.now ≡ header_at I L n
@@ -105,7 +105,7 @@ pub record IsOpenDirectory (I : List (List ℕ)) (L : VolumeLayout) (id : FileId
   pub is : IsDirectoryAt I L id.number opened
   pub passes : (C : Catalogue) → ShowsBy I L C → PassesChecks I L id is.lbns (directory_checks who r) C
 
--- the file is a directory, and passes the checks, whatever blocks it has
+-- the file is a directory, and passes the checks with any blocks that it has
 pub record MayBeOpened (I : List (List ℕ)) (L : VolumeLayout) (id : FileId) (who : Uic) (r : Right) : Type 0 where
   pub file : IsFileId I L id
   pub kind : is_directory_header id.number (header_at I L id.number) ≡ true

@@ -1,4 +1,4 @@
-//! The blocks of a directory on the volume, each found by its number in the file, with no list of them.
+//! The blocks of a directory on the volume, each located by its index in the file, without a list of them.
 ghost use Rattle.std.specs.Prelude.{◌≡◌, ◌≢◌, ◌≤◌, ℕ, List, length, IfSome};
 ghost use Rattle.ods_space.specs.{Files.IsFile, Files.HasBlocks, Chain.chain_blocks};
 ghost use Rattle.ods_mount.specs.{Faults.contents_of, Sound.IsSoundBy};
@@ -10,7 +10,7 @@ use ods_space::{BlockCursor, Disk, count_whole, locate_whole};
 use ods_state::KnownNames;
 use std::marker::Model;
 
-/// The blocks of a file of a sound image, any but INDEXF.SYS. A contract sees the list of them.
+/// The blocks of a file of a sound image, except INDEXF.SYS. A contract sees the list of them.
 #[derive(Drop)]
 pub struct DirectoryBlocks<'a> {
     disk: Disk<'a>,
@@ -18,7 +18,7 @@ pub struct DirectoryBlocks<'a> {
     count: u32,
     /// The first header.
     header: &'a Block,
-    /// What is noted of the file, if anything is.
+    /// The notes about the file, if there are any.
     names: Option<&'a KnownNames>,
 }
 
@@ -98,7 +98,7 @@ impl<'a> DirectoryBlocks<'a> {
     }
 }
 
-/// The blocks of a file that are still to come, found one behind another with no memory. A contract sees the list of them.
+/// The blocks of a file that are still to come, located in order and without allocation. A contract sees the list of them.
 #[derive(Drop)]
 pub struct BlocksToCome<'a> {
     image: &'a Image,

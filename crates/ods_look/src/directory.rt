@@ -1,4 +1,4 @@
-//! Looks at the names of a directory.
+//! Look-ups of names in a directory.
 ghost use Rattle.std.specs.Prelude.{IfSome, MatchResult};
 ghost use Rattle.ods_mount.specs.Sound.{IsSoundBy};
 ghost use Rattle.ods_request.specs.{declared.requests.Request.TheVariants.LookUp, declared.requests.Request.TheVariants.List as Lines, declared.answers.Answer.TheVariants.Found, declared.answers.Answer.TheVariants.Names};
@@ -13,8 +13,8 @@ use ods_space::Disk;
 use ods_state::KnownNames;
 use std::alloc::Global;
 
-/// The file and the version that a name with a pick means in a directory, or the first fault of looking it up. The call
-/// takes no memory. Of a directory that is noted it reads the blocks that may have the name.
+/// Returns the file and the version that a name with a pick selects in a directory, or the first fault of the look-up. It allocates no memory. If
+/// there are notes about the directory, it reads only the blocks that can have the name.
 pub fn look_up<'a>(
     disk: &Disk<'a>,
     who: Uic,
@@ -40,8 +40,7 @@ pub fn look_up<'a>(
     }
 }
 
-/// The lines of a directory in the order of their names and versions, or the first fault of listing it; or, where it
-/// has none, want of memory.
+/// Returns the lines of a directory in the order of their names and versions. Otherwise returns the first fault, or NoMemory if there is none.
 pub fn list(alloc: Global, disk: &Disk<'_>, who: Uic, dir: FileId) -> Result<Listing, Refusal>
     requires { on IsSoundBy disk.now }
     ensures { MatchResult result (λ lines. on IsAnsweredBy disk.now who (Lines dir) (Names lines))

@@ -1,5 +1,5 @@
-//! What a sound image answers without a change: reading a block, looking a name up, listing a directory, showing what a file is. And
-//! the opening of files and directories, on which requests that change them stand too.
+//! The requests that leave a sound image unchanged: reading a block, looking a name up, listing a directory, and returning the facts about a file. It
+//! also opens files and directories, on which requests that change them depend.
 #![tactic(auto)]
 
 mod blocks;

@@ -1,4 +1,4 @@
-//! What is noted of a directory: its blocks, and the tags of their entries.
+//! Notes about a directory: its blocks, and the tags of their entries.
 ghost use Rattle.std.specs.Prelude.{◌≡◌, ◌++◌, ℕ, List, IfOk, IfSome, OnOk};
 ghost use Rattle.ods_space.specs.{Files.AreInside, Files.HasBlocks, Files.IsFile};
 ghost use Rattle.ods_space.specs.Disks.{header_on, on};
@@ -16,7 +16,7 @@ use std::alloc::{AllocError, Global};
 /// The fewest blocks of a directory that is worth a note.
 const FEWEST: u32 = 3;
 
-/// What may be noted of the directory with this number. It is nothing where the directory has few blocks, or memory is short.
+/// Makes the notes about the directory with this number. Returns `None` if the directory has few blocks, or memory is refused.
 pub fn known_names(alloc: Global, disk: &Disk<'_>, number: u16) -> Option<KnownNames>
     requires { on IsSoundBy disk.now }
     ensures { IfSome result (on AreNamesKnown disk.now) }

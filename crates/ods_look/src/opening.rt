@@ -1,4 +1,4 @@
-//! Opening: a file by its ID, a plain file, one of its blocks, or a directory, where the user has a right to it.
+//! Opening a file by its ID: a plain file, one of its blocks, or a directory, to which the user has a right.
 ghost use Rattle.std.specs.Prelude.{◌≡◌, ◌≤◌, true, IfOk, IfErr, IfSome, IfNone};
 ghost use Rattle.ods_header.specs.Header.{is_directory_header, owner_of, protection_of};
 ghost use Rattle.ods_space.specs.{Files.IsFile};
@@ -16,7 +16,7 @@ use ods_request::{Refusal, Right, permits};
 use ods_space::{Disk, locate_whole, primary_header};
 use ods_state::KnownNames;
 
-/// The first header of the file with this ID.
+/// Returns the first header of the file with this ID, or `None` if no file has it.
 pub fn named_header<'a>(disk: &Disk<'a>, file: FileId) -> Option<&'a Block>
     ensures some { IfSome result (λ block. on IsFileId disk.now file × (block.now ≡ header_on disk.now file.number)) }
     ensures none { IfNone result (¬ on IsFileId disk.now file) }
@@ -29,14 +29,14 @@ pub fn named_header<'a>(disk: &Disk<'a>, file: FileId) -> Option<&'a Block>
     }
 }
 
-/// Whether the protection in this first header grants the user this right.
+/// Returns whether the protection word of this first header grants the user this right.
 pub fn is_granted(header: &Block, who: Uic, right: Right) -> bool
     ensures { result ≡ permits who (owner_of header.now) (protection_of header.now) right }
 {
     permits(&who, &owner(header), protection(header), right)
 }
 
-/// The first header of a plain file with a number above the reserved ones, or the first fault.
+/// Returns the first header of a plain file, or the first fault. Its number must be above `reserved`.
 pub fn plain_header<'a>(disk: &Disk<'a>, file: FileId, reserved: u16) -> Result<&'a Block, Refusal>
     requires { on IsSoundBy disk.now }
     ensures ok { IfOk result (λ block. on IsPlainFile disk.now file reserved × (block.now ≡ header_on disk.now file.number)) }
@@ -54,7 +54,7 @@ pub fn plain_header<'a>(disk: &Disk<'a>, file: FileId, reserved: u16) -> Result<
     Ok(block)
 }
 
-/// The first header of a plain file with a number above the reserved ones, where the user has this right; or the first fault.
+/// Returns the first header of a plain file to which the user has this right, or the first fault. Its number must be above `reserved`.
 pub fn open_plain<'a>(
     disk: &Disk<'a>,
     who: Uic,
@@ -77,7 +77,8 @@ pub fn open_plain<'a>(
     Ok(block)
 }
 
-/// The LBN of a block of a plain file, counted from 1, where the user has this right; or the first fault.
+/// Returns the LBN of a block of a plain file, counted from 1, to which the user has this right, or the first fault. The number of the file must be
+/// above `reserved`.
 pub fn open_block(
     disk: &Disk<'_>,
     who: Uic,
@@ -109,7 +110,7 @@ pub struct OpenDirectory<'a> {
     pub mark: u64,
 }
 
-/// A directory on which the user has this right; or the first fault.
+/// Opens a directory to which the user has this right, or returns the first fault.
 pub fn open_directory<'a>(
     disk: &Disk<'a>,
     who: Uic,
@@ -123,7 +124,7 @@ pub fn open_directory<'a>(
     open_noted(disk, who, dir, right, None)
 }
 
-/// The same, where something may be noted of one directory. Of that one its names are found by what is noted.
+/// Opens a directory as [`open_directory`] does. If `names` are notes about this directory, its names are located by them.
 pub fn open_noted<'a>(
     disk: &Disk<'a>,
     who: Uic,
@@ -168,7 +169,7 @@ fn directory_header<'a>(
 impl<'a> OpenDirectory<'a> {
     ghost use Rattle.ods_space.specs.Disks.{header_on, on};
 
-    /// The directory with this first header.
+    /// Makes the directory with this first header.
     pub fn of(disk: &Disk<'a>, number: u16, header: &'a Block) -> Self
         requires sound { on IsSoundBy disk.now }
         requires file { on IsFile disk.now number }

@@ -1,4 +1,4 @@
-//! The answers of the requests that only look and take no memory.
+//! The answers to queries.
 ghost use Rattle.std.specs.Prelude.{◌≡◌, IfSome, MatchResult};
 ghost use Rattle.ods_state.specs.{Change.IsAnsweredBy, Noted.AreNamesKnown, Served.IsRefusalOf, Outcome.request_of};
 ghost use Rattle.ods_request.specs.declared.answers.Answer.TheVariants.{Bytes};
@@ -13,8 +13,7 @@ use ods_request::{Answer, Query, Refusal};
 use ods_space::Disk;
 use ods_state::KnownNames;
 
-/// Writes the answer of a query into this place, or gives its first fault and leaves the place as it is. The call takes
-/// no memory.
+/// Writes the answer to a query into `answer`. Otherwise returns the first fault, and leaves `answer` unchanged. It allocates no memory.
 pub fn look_into(
     disk: &Disk<'_>,
     who: Uic,
@@ -28,7 +27,7 @@ pub fn look_into(
     look_into_noted(disk, who, query, None, answer)
 }
 
-/// Does what [`look_into`] does, where something may be noted of one directory.
+/// Writes the answer to a query as [`look_into`] does. `names` may have notes about one directory.
 pub fn look_into_noted<'a>(
     disk: &Disk<'a>,
     who: Uic,
@@ -79,7 +78,7 @@ fn put_block(answer: &mut Answer, block: &Block)
     }
 }
 
-/// The answer of a query, or its first fault. The call takes no memory.
+/// Returns the answer to a query, or its first fault. It allocates no memory.
 pub fn look(disk: &Disk<'_>, who: Uic, query: Query) -> Result<Answer, Refusal>
     requires { on IsSoundBy disk.now }
     ensures { MatchResult result (on IsAnsweredBy disk.now who (request_of query)) (on IsRefusalOf disk.now who (request_of query)) }

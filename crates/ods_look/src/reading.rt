@@ -1,4 +1,4 @@
-//! The block that a Read answers.
+//! The block that a Read returns.
 ghost use Rattle.std.specs.Prelude.{MatchResult};
 ghost use Rattle.ods_request.specs.{declared.requests.Request.TheVariants.Read as ReadRequest, declared.answers.Answer.TheVariants.Bytes};
 ghost use Rattle.ods_state.specs.{Change.IsAnsweredBy, Served.IsRefusalOf};
@@ -27,8 +27,7 @@ pub(crate) fn shown_block<'a>(
     }
 }
 
-/// The block of a file with this virtual block number, counted from 1, or the first fault of reading it. The call
-/// takes no memory.
+/// Returns the block of a file with this virtual block number, counted from 1, or the first fault. It allocates no memory.
 pub fn read(disk: &Disk<'_>, who: Uic, file: FileId, vbn: u32) -> Result<Block, Refusal>
     requires { on IsSoundBy disk.now }
     ensures { MatchResult result (λ block. on IsAnsweredBy disk.now who (ReadRequest file vbn) (Bytes block))

@@ -1,4 +1,4 @@
-//! What a Stat shows of a file.
+//! The facts that a Stat returns about a file.
 ghost use Rattle.std.specs.Prelude.{◌≡◌, ℕ, List, MatchResult};
 ghost use Rattle.ods_base.specs.declared.file_id.Uic.{Uic};
 ghost use Rattle.ods_space.specs.{Files.IsFile, Files.HasBlocks};
@@ -14,7 +14,7 @@ use ods_header::{attributes, ident, is_directory, owner, protection, system_char
 use ods_request::{Kind, Refusal, Stat};
 use ods_space::{Disk, count_whole};
 
-/// What is shown of a file, to everybody; there is no fault but that it is not there. The call takes no memory.
+/// Returns the facts about a file to any user. The only fault is that the file does not exist. It allocates no memory.
 pub fn stat(disk: &Disk<'_>, file: FileId) -> Result<Stat, Refusal>
     requires { on IsSoundBy disk.now }
     ensures { MatchResult result (λ stat. (who : Uic) → on IsAnsweredBy disk.now who (StatRequest file) (Info stat))

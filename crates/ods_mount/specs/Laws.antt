@@ -1,4 +1,4 @@
--- The law that no fault is true of a sound image, which the definitions describe by what it has.
+-- The law that no fault holds for an image that is sound by its structure.
 use Rattle.std.specs.Prelude.{ℕ, List}
 use Rattle.ods_space.specs.Layout.{VolumeLayout}
 use Rattle.ods_mount.specs.Faults.{IsSound}

@@ -1,4 +1,4 @@
-//! The blocks of a file, as the blocks of a directory.
+//! The blocks of a file, read as the blocks of a directory.
 ghost use Rattle.std.specs.Prelude.{◌≡◌, ◌<◌, ◌^◌, length};
 ghost use Rattle.ods_space.specs.Files.{AreInside};
 
@@ -15,7 +15,7 @@ pub struct FileBlocks<'a> {
 }
 
 impl<'a> FileBlocks<'a> {
-    /// The blocks at these LBNs.
+    /// Makes the list of the blocks at these LBNs, all inside the image.
     pub fn new(image: &'a Image, lbns: &'a [u32]) -> FileBlocks<'a>
         requires inside { AreInside image.now lbns.now }
         requires few { length lbns.now < 2 ^ 32 }

@@ -1,4 +1,4 @@
-//! The whole check of an image.
+//! The complete check of an image.
 ghost use Rattle.std.specs.Prelude.{◌≡◌, ◌≢◌, IfOk, IfErr, OnOk};
 ghost use Rattle.ods_header.specs.Home.{IsHomeAt};
 ghost use Rattle.ods_space.specs.{Disks.on, Files.IsLayoutOf};
@@ -14,8 +14,8 @@ use ods_base::Image;
 use ods_space::{Disk, Layout};
 use std::alloc::Global;
 
-/// The image with its layout, where it is sound. Else the image as it came, and one of its faults. A fault other than
-/// NoMemory is true of the image with all that it carries. A sound image is refused for want of memory alone.
+/// Checks an image and returns it with its layout if it is sound. Otherwise returns the image unchanged, with one of its faults. Every fault except
+/// NoMemory holds for the image. The only error of a sound image is out of memory.
 pub fn mount(alloc: Global, image: Image) -> Result<Mounted, (Image, MountFault)>
     ensures mounted { IfOk result (λ m. (m.image ≡ image) × IsSoundBy image m.layout) }
     ensures sound { IfOk result (λ _. IsSound image) }
@@ -28,8 +28,7 @@ pub fn mount(alloc: Global, image: Image) -> Result<Mounted, (Image, MountFault)
     }
 }
 
-/// The layout of an image that is sound: it passes each check. Else one of its faults. NoMemory says nothing of the
-/// image.
+/// Checks an image and returns its layout if it passes each check. Otherwise returns one of its faults. NoMemory states nothing about the image.
 pub fn check_image(alloc: Global, image: &Image) -> Result<Layout, MountFault>
     ensures ok { IfOk result (IsChecked image.now) }
     ensures err { IfErr result (λ e. e ≢ MountFault.NoMemory → FaultIsTrue image.now e) }

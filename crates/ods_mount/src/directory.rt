@@ -14,8 +14,8 @@ use ods_header::is_directory;
 use ods_space::{Disk, chain, header_block};
 use std::alloc::Global;
 
-/// Where this file is a directory, its used entries are good and distinct. `attributes` are those of its header. A file
-/// that is no directory passes. BadDirectory says that an entry is bad, and DuplicateName that two are alike.
+/// Checks that the used entries of a directory are valid and distinct. `attributes` are the attributes of its header. A file that is not a directory
+/// passes. `BadDirectory` reports a bad entry, and `DuplicateName` two entries of the same name, type and version.
 pub fn check_directory(
     alloc: Global,
     disk: &Disk<'_>,
@@ -61,7 +61,7 @@ fn file_blocks(alloc: Global, disk: &Disk<'_>, number: u16) -> Result<Vec<u32>, 
     }
 }
 
-/// Whether this file is a directory: file 4, or one above 5 whose ident has the type DIR.
+/// Returns whether this file is a directory: file 4, or a file above 5 whose ident has the type DIR.
 pub fn is_directory_file(disk: &Disk<'_>, number: u16) -> bool
     requires { on IsFile disk.now number }
     ensures { MatchBool result (on IsDirectoryFile disk.now number) (¬ on IsDirectoryFile disk.now number) }

@@ -1,4 +1,4 @@
-//! The checks that look at one file after another.
+//! The checks that examine one file after another.
 ghost use Rattle.std.specs.Prelude.{◌≡◌, ℕ, ◌+◌, ◌*◌, ◌≤◌, ◌<◌, List, length, OnOk, IfOk, IfErr};
 ghost use Rattle.ods_header.specs.Home.{IsHomeAt};
 ghost use Rattle.ods_space.specs.Files.{IsFile, HasBlocks, Holds, IsLayoutOf};

@@ -1,4 +1,4 @@
-//! The blocks of a file, where its headers name them: each is checked, and noted in the table of what files hold.
+//! The blocks that the headers of a file map. Each block is checked, and noted in the table of the blocks that files hold.
 ghost use Rattle.std.specs.Prelude.{◌≡◌, ℕ, ◌+◌, ◌*◌, ◌^◌, ◌<◌, ◌≤◌, List, length, OnOk, IfOk, IfErr};
 ghost use Rattle.ods_header.specs.{Header.IsLaidOut, Header.IsRun, Header.run_blocks, Header.blocks_of, Home.IsHomeAt};
 ghost use Rattle.ods_space.specs.{Chain.header_blocks, Chain.chain_blocks, Files.HasBlocks, Files.Holds, Files.IsLayoutOf};

@@ -25,7 +25,7 @@ pub(crate) fn check_formats(disk: &Disk<'_>) -> Result<(), MountFault>
     Ok(())
 }
 
-/// Whether the header of this number is right but for the format of its pointers.
+/// Returns whether the header of this number is valid except for the format of its pointers.
 pub fn has_other_format(disk: &Disk<'_>, number: u16) -> bool
     ensures { MatchBool result
         (IsHeader (header_on disk.now number) number × ¬ IsFormat1 (header_on disk.now number))

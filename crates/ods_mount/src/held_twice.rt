@@ -1,4 +1,4 @@
-//! Blocks that are held twice.
+//! Blocks that files hold twice.
 ghost use Rattle.std.specs.Prelude.{◌≡◌, ℕ, List, MatchBool};
 ghost use Rattle.std.specs.List.{Contains};
 ghost use Rattle.ods_header.specs.Header.{IsLaidOut, blocks_of};

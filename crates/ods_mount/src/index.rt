@@ -1,4 +1,4 @@
-//! What INDEXF.SYS maps: the index bitmap, headers 1 to 16 and the home block. A layout alone decides it.
+//! What INDEXF.SYS maps: the index bitmap, headers 1 to 16 and the home block. The check needs only a layout.
 ghost use Rattle.std.specs.Prelude.{◌≡◌, ◌≢◌, ◌<◌, ◌+◌, ℕ, Some, length, slice_get, MatchBool, OnOk, IfErr, IfNone, IfSome};
 ghost use Rattle.ods_header.specs.Home.{IsHomeAt};
 ghost use Rattle.ods_mount.specs.{Faults.IsTrueOf, Checks.IsWellIndexed, Checks.IsBadlyIndexed, Checks.IsElsewhere, Checks.NoPlaceIsFree};
@@ -8,8 +8,8 @@ use crate::MountFault;
 use crate::places::check_free_places;
 use ods_space::{Disk, Layout};
 
-/// INDEXF.SYS maps what headers are found by and the home block, and no lower place of a home block is free. Otherwise
-/// the fault is BadIndex, and it is true of the image.
+/// Checks that INDEXF.SYS maps the index bitmap, headers 1 to 16 and the home block, and that no lower LBN of a home block is free. Otherwise the
+/// fault is BadIndex, which holds for the image.
 pub fn check_index(disk: &Disk<'_>, home_lbn: u32) -> Result<(), MountFault>
     requires { IsHomeAt disk.now.image.now home_lbn }
     ensures ok { OnOk result (IsWellIndexed disk.now.layout.now home_lbn × on NoPlaceIsFree disk.now home_lbn) }
@@ -34,7 +34,7 @@ fn is_well_indexed(layout: &Layout, home_lbn: u32) -> bool
     }
 }
 
-/// Whether INDEXF.SYS has fewer blocks than boot block, home block, index bitmap and headers 1 to 16 take.
+/// Returns whether INDEXF.SYS has fewer blocks than boot block, home block, index bitmap and headers 1 to 16 take.
 pub fn is_index_short(layout: &Layout) -> bool
     ensures { MatchBool result
         (length layout.now.index < layout.now.home.index_bitmap_size + 18)
@@ -43,7 +43,7 @@ pub fn is_index_short(layout: &Layout) -> bool
     layout.index().len() < layout.home().index_bitmap_size as usize + 18
 }
 
-/// Whether INDEXF.SYS has the home block neither as VBN 1 nor as VBN 2.
+/// Returns whether INDEXF.SYS has the home block neither as VBN 1 nor as VBN 2.
 pub fn is_other_home(layout: &Layout, home_lbn: u32) -> bool
     ensures { MatchBool result
         ((slice_get layout.now.index 0 ≢ Some home_lbn) × (slice_get layout.now.index 1 ≢ Some home_lbn))
@@ -53,7 +53,8 @@ pub fn is_other_home(layout: &Layout, home_lbn: u32) -> bool
     !is_at(index, 0, home_lbn as u64) && !is_at(index, 1, home_lbn as u64)
 }
 
-/// The first block of the index bitmap and of headers 1 to 16 that INDEXF.SYS maps elsewhere, counted from 0.
+/// Returns the first block of the index bitmap and headers 1 to 16 that INDEXF.SYS does not map as the home block locates it. The index counts from
+/// 0.
 pub fn first_misplaced(layout: &Layout) -> Option<u32>
     ensures some { IfSome result (λ i. IsElsewhere layout.now i × ((k : ℕ) → k < i → ¬ IsElsewhere layout.now k)) }
     ensures few { IfSome result (λ i. i < 65536 + 16) }

@@ -1,7 +1,7 @@
-//! A law over the definitions alone: it stands on a function with no body.
+//! A law about definitions. It is a function with an empty body.
 ghost use Rattle.ods_mount.specs.Laws.{SoundHasNoFault};
 
-/// No fault is true of an image that is sound by what it has.
+/// No fault holds for an image that is sound by its structure.
 pub fn sound_has_no_fault()
     ensures { SoundHasNoFault }
 {}

@@ -1,4 +1,4 @@
-//! Where the volume's structures lie, or why that cannot be found.
+//! The LBNs of the volume's structures, or why they cannot be found.
 ghost use Rattle.std.specs.Prelude.{◌≡◌, ◌≢◌, IfOk, IfErr, IfNone, IfSome};
 ghost use Rattle.ods_header.specs.Home.{IsHomeAt};
 ghost use Rattle.ods_space.specs.{Files.FindsFiles, Files.IsLayoutOf, Files.IsReadable, Layout.VolumeLayout};
@@ -10,8 +10,8 @@ use ods_header::find_home;
 use ods_space::{ChainFault, Layout, LayoutFault};
 use std::alloc::{AllocError, Global};
 
-/// The LBN of the home block, and the layout of the volume. An image without a layout is answered with one of its faults.
-/// NoMemory says nothing of the image.
+/// Returns the LBN of the home block and the layout of the volume. If an image has no layout, it returns one of its faults. NoMemory states nothing
+/// about the image.
 pub fn read_layout(alloc: Global, image: &Image) -> Result<(u32, Layout), MountFault>
     ensures home { IfOk result (λ found. IsHomeAt image.now found.0) }
     ensures layout { IfOk result (λ found. IsLayoutOf image.now found.1) }
@@ -30,8 +30,8 @@ pub fn read_layout(alloc: Global, image: &Image) -> Result<(u32, Layout), MountF
     }
 }
 
-/// The layout by which an image is read, be it sound or not: BITMAP.SYS has its blocks in it where its chain is whole, and else none. There is no
-/// layout where INDEXF.SYS has no whole chain, since nothing else leads to headers.
+/// Returns the layout by which an image is read, sound or not. If the chain of BITMAP.SYS is not whole, its list of blocks is empty. Returns `None`
+/// if INDEXF.SYS has no whole chain, because nothing else locates headers.
 pub fn readable_layout(alloc: Global, image: &Image) -> Result<Option<Layout>, AllocError>
     ensures some { IfOk result (λ found. IfSome found (IsReadable image.now)) }
     ensures none { IfOk result (λ found. IfNone found ((L : VolumeLayout) → ¬ FindsFiles image.now L)) }
@@ -76,7 +76,7 @@ fn mount_fault(fault: LayoutFault) -> MountFault
     }
 }
 
-/// The mount's fault for this fault of a file's chain.
+/// Returns the fault of the mount for a fault of the chain of file `number`.
 pub fn chain_fault(number: u16, fault: ChainFault) -> MountFault
     ensures { result ≡ mount_fault_of (LayoutFault.Chain number fault) }
 {

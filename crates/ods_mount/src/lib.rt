@@ -1,4 +1,4 @@
-//! The whole check of an image.
+//! The complete check of an image.
 #![tactic(auto)]
 
 mod apart;

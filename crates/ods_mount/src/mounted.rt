@@ -37,7 +37,7 @@ impl Mounted {
         Mounted { image, layout }
     }
 
-    /// A sound image with its layout.
+    /// Makes a volume of a sound image and its layout.
     pub fn of(image: Image, layout: Layout) -> Mounted
         requires { IsSoundBy image layout }
         ensures { (result.image ≡ image) × (result.layout ≡ layout) }
@@ -45,7 +45,7 @@ impl Mounted {
         Mounted { image, layout }
     }
 
-    /// An equal volume, to be changed by itself. An image over shared blocks shares them; one that is alone with its blocks copies them.
+    /// Returns an equal volume that changes separately. An image over a fixed one shares its base; an image that is alone with its blocks is copied.
     pub fn copy(&self) -> Result<Mounted, AllocError>
         ensures { IfOk result (λ copy. copy ≡ self.now) }
     {
@@ -54,7 +54,7 @@ impl Mounted {
         Ok(Mounted { image, layout })
     }
 
-    /// The image. No fault is true of it.
+    /// Returns the image. No fault holds for it.
     pub fn image(&self) -> &Image
         ensures value { result.now ≡ self.now.image }
         ensures sound { IsSoundBy self.now.image self.now.layout }
@@ -63,7 +63,7 @@ impl Mounted {
         &self.image
     }
 
-    /// The layout of the image.
+    /// Returns the layout of the image.
     pub fn layout(&self) -> &Layout
         ensures value { result.now ≡ self.now.layout }
         ensures sound { IsSoundBy self.now.image self.now.layout }
@@ -71,7 +71,7 @@ impl Mounted {
         &self.layout
     }
 
-    /// The image with its layout.
+    /// Returns the image with its layout.
     pub fn disk(&self) -> Disk<'_>
         ensures image { result.image.now ≡ self.now.image }
         ensures layout { result.layout.now ≡ self.now.layout }
@@ -83,7 +83,8 @@ impl Mounted {
         }
     }
 
-    /// Writes the blocks of a draft, and INDEXF.SYS gets these places behind its own, where a sound volume comes of it. It takes no memory.
+    /// Writes the blocks of a draft, and appends these LBNs to the blocks of INDEXF.SYS in the layout. The result must be a sound volume. It
+    /// allocates no memory.
     pub fn apply(&mut self, draft: Draft, places: &[u32])
         requires sound { IsSoundBy (applied self.old.image draft) (with_places self.old.layout places.now) }
         ensures changed { self.new ≡ record { image = applied self.old.image draft; layout = with_places self.old.layout places.now } }
@@ -92,7 +93,7 @@ impl Mounted {
         self.layout.grow(places);
     }
 
-    /// The image and its layout.
+    /// Returns the image and its layout.
     pub fn into_parts(self) -> (Image, Layout)
         ensures value { (result.0 ≡ self.image) × (result.1 ≡ self.layout) }
         ensures sound { IsSoundBy self.image self.layout }
@@ -100,8 +101,8 @@ impl Mounted {
         (self.image, self.layout)
     }
 
-    /// The image as it is, to be changed no more, an equal one over the same blocks, with room for each of them to be changed, and
-    /// the layout. After a refusal all comes back.
+    /// Splits the image into a fixed one and an equal image over it, with reserved room to change each block, and returns the layout too. When out of
+    /// memory, it returns the volume unchanged.
     pub fn split(self) -> Result<(FixedImage, Image, Layout), Mounted>
         ensures ok { IfOk result (λ parts. (parts.0 ≡ self.image) × (parts.1 ≡ self.image) × (parts.2 ≡ self.layout)) }
         ensures sound { IsSoundBy self.image self.layout }

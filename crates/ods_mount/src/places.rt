@@ -1,4 +1,4 @@
-//! Places of a home block below the one that the volume has: a block there could be taken for the home block.
+//! The LBNs where a home block may be, below the home block of the volume. A block there could be mistaken for the home block.
 ghost use Rattle.std.specs.Prelude.{◌≡◌, ◌↔◌, ◌<◌, ℕ, IsTrue, MatchBool, OnOk, IfErr};
 ghost use Rattle.ods_header.specs.Home.{IsHomeAt, IsHomePlace};
 ghost use Rattle.ods_space.specs.Free.{is_free_block};
@@ -8,7 +8,7 @@ ghost use Rattle.ods_space.specs.Disks.{on};
 use crate::MountFault;
 use ods_space::{Disk, is_free};
 
-/// Whether the LBN is a place of a home block: 1, 256, 512, 768 and so on.
+/// Returns whether a home block may be at the LBN: 1, 256, 512, 768 and so on.
 pub fn is_home_place(lbn: u32) -> bool
     ensures { IsTrue result ↔ IsHomePlace lbn }
 {
@@ -29,8 +29,8 @@ pub(crate) fn check_free_places(disk: &Disk<'_>, home_lbn: u32) -> Result<(), Mo
     Ok(())
 }
 
-/// Whether this block of a file, by its index counted from 0, is a place of a home block below this one, and a request can change
-/// it. None changes files 3 and 5, nor the first two blocks of INDEXF.SYS, the boot block and the home block.
+/// Returns whether a home block may be at this LBN below the volume's, and a request can change this block of a file. `index` is the index of the
+/// block in the file, from 0. No request changes files 3 and 5, or the first two blocks of INDEXF.SYS.
 pub fn is_loose_place(home_lbn: u32, number: u16, index: u32, lbn: u32) -> bool
     ensures { MatchBool result
         (IsHomePlace lbn × (lbn < home_lbn) × ¬ IsFixed number index)

@@ -1,11 +1,11 @@
-//! Sets of numbers, one bit each.
+//! Sets of numbers, with one bit for each.
 ghost use Rattle.std.specs.Prelude.{◌≡◌, ℕ, ◌*◌, ◌<◌, ◌≤◌, false, length, IfOk};
 ghost use Rattle.ods_mount.specs.Tables.{has, IsWith};
 
 use std::alloc::{AllocError, Global};
 use std::marker::Model;
 
-/// A set of numbers below 64 times the count of its words.
+/// A set of numbers below 64 times the number of its words.
 #[derive(Drop)]
 pub struct NumberSet {
     words: Vec<u64>,
@@ -20,7 +20,7 @@ impl Model for NumberSet {
 }
 
 impl NumberSet {
-    /// An empty set, with room for the numbers below `len`.
+    /// Makes an empty set with room for the numbers below `len`.
     pub fn new(alloc: Global, len: u32) -> Result<NumberSet, AllocError>
         ensures empty { IfOk result (λ set. (b : ℕ) → has set b ≡ false) }
         ensures room { IfOk result (λ set. len ≤ 64 * length set) }
@@ -29,7 +29,7 @@ impl NumberSet {
         Ok(NumberSet { words })
     }
 
-    /// Whether the number is in the set.
+    /// Returns whether the number is in the set.
     pub fn contains(&self, number: u32) -> bool
         ensures { result ≡ has self.now number }
     {
@@ -39,7 +39,7 @@ impl NumberSet {
         }
     }
 
-    /// Puts the number into the set.
+    /// Adds the number to the set.
     pub fn insert(&mut self, number: u32)
         requires { number < 64 * length self.old }
         ensures with { IsWith self.new self.old number }

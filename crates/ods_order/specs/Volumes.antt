@@ -7,15 +7,15 @@ use Rattle.ods_order.specs.declared.fault.OrderFault.{OrderFault}
 use Rattle.ods_order.specs.declared.fault.OrderFault.TheVariants.{OtherSize, NoMemory}
 use Rattle.ods_order.specs.Order.{sector_size, sector_count, block_count, container_size, place, IsBeside}
 
--- the bytes of sector n of the volume, as the container has them
+-- the bytes of sector n of the volume in the container
 abbrev pub sector_at : Order → List ℕ → ℕ → List ℕ
 sector_at order container n = take (sector_size order) (drop (place order n) container)
 
--- the same, out of the bytes of the volume
+-- the bytes of sector n in the bytes of the volume
 abbrev pub sector_of : Order → List ℕ → ℕ → List ℕ
 sector_of order volume n = take (sector_size order) (drop (sector_size order * n) volume)
 
--- the bytes of the volume: its sectors, one behind another
+-- the bytes of the volume: its sectors in order
 unfoldable pub volume_of : Order → List ℕ → List ℕ
 volume_of order container = flat_map (sector_at order container) (range_with_len 0 (sector_count order))
 
@@ -23,7 +23,7 @@ volume_of order container = flat_map (sector_at order container) (range_with_len
 abbrev pub block_in : List ℕ → ℕ → List ℕ
 block_in bytes lbn = take 512 (drop (512 * lbn) bytes)
 
--- the container has this volume now, and every byte beside it is as it was
+-- the container now has this volume, and every byte outside the volume is unchanged
 pub record IsLaidOut (order : Order) (old volume new : List ℕ) : Type 0 where
   pub size : length new ≡ length old
   pub holds : volume_of order new ≡ volume

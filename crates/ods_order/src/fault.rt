@@ -1,13 +1,13 @@
-//! Why no volume is read out of a container.
+//! Why a volume cannot be read from a container.
 use thiserror::Error;
 
-/// Why no volume is read out of a container.
+/// The reason why a volume cannot be read from a container.
 #[derive(Clone, Copy, Debug, PartialEq, Eq, Error)]
 pub enum OrderFault {
-    /// A container of this order has another size.
+    /// The container does not have the size of this order.
     #[error("OtherSize")]
     OtherSize,
-    /// A growth was refused.
+    /// The allocator refused memory.
     #[error("NoMemory")]
     NoMemory,
 }

@@ -1,5 +1,5 @@
-//! Floppies in physical order: a container that has the sectors of a volume in the order of the disk's surface, as RX01, RX02 and RX50 images
-//! often do. The volume is read out of it, and written back to the same places.
+//! Floppies in physical order. Such a container has the sectors of a volume in the order of the disk's surface, as RX01, RX02 and RX50 images often
+//! do. The volume is read from it, and written back to the same offsets.
 #![tactic(auto)]
 
 mod fault;

@@ -1,21 +1,21 @@
-//! The orders of sectors: how large a container of each is, and where each sector of the volume stands in it.
+//! The orders of sectors: the size of a container of each, and the offset of each sector of the volume.
 ghost use Rattle.std.specs.Prelude.{◌≡◌, ◌≢◌, ◌+◌, ◌*◌, ◌<◌, ◌≤◌, IfSome, IfNone};
 ghost use Rattle.ods_order.specs.declared.order.Order.{Order as AnOrder};
 ghost use Rattle.ods_order.specs.Order.{block_count, container_size, floppy_slot as slot_of_floppy, order_name, place as place_of, rx50_slot as slot_of_rx50, sector_count, sector_size};
 
-/// How the sectors of a floppy stand in a container. An image whose blocks stand one behind another has none of these orders.
+/// An order of the sectors of a floppy in a container. An image with its blocks in order has none of these orders.
 #[derive(Clone, Copy, Debug, PartialEq, Eq)]
 pub enum Order {
-    /// 77 tracks of 26 sectors of 128 bytes; the first track is not of the volume.
+    /// 77 tracks of 26 sectors of 128 bytes. The first track is not part of the volume.
     Rx01,
-    /// The same with sectors of 256 bytes.
+    /// 77 tracks of 26 sectors of 256 bytes. The first track is not part of the volume.
     Rx02,
     /// 80 tracks of 10 sectors of 512 bytes; the volume begins on the second track and ends on the first.
     Rx50,
 }
 
 impl Order {
-    /// The order of the containers of this size, where there is one. An RX50 image in the order of its blocks has the size of one in physical order.
+    /// Returns the order of the containers of this size, if there is one. An RX50 image in block order has the size of one in physical order.
     pub fn of_size(size: usize) -> Option<Order>
         ensures some { IfSome result (λ order. size ≡ container_size order) }
         ensures none { IfNone result ((order : AnOrder) → size ≢ container_size order) }
@@ -28,7 +28,7 @@ impl Order {
         }
     }
 
-    /// The order of this name.
+    /// Returns the order of this name.
     pub fn of_name(name: &str) -> Option<Order>
         ensures some { IfSome result (λ order. name.now ≡ order_name order) }
         ensures none { IfNone result ((order : AnOrder) → name.now ≢ order_name order) }
@@ -41,7 +41,7 @@ impl Order {
         }
     }
 
-    /// Its name.
+    /// Returns the name of the order.
     pub fn name(self) -> &'static str
         ensures { result.now ≡ order_name self }
     {
@@ -52,7 +52,7 @@ impl Order {
         }
     }
 
-    /// The bytes of a container.
+    /// Returns the size of a container in bytes.
     pub fn container_size(self) -> usize
         ensures { result ≡ container_size self }
     {
@@ -63,7 +63,7 @@ impl Order {
         }
     }
 
-    /// The blocks of the volume in it.
+    /// Returns the number of blocks of the volume in a container.
     pub fn block_count(self) -> u32
         ensures value { result ≡ block_count self }
         ensures sectors { 512 * result ≡ sector_size self * sector_count self }

@@ -1,4 +1,4 @@
-//! The volume read out of a container.
+//! Reading of a volume from a container.
 ghost use Rattle.std.specs.Prelude.{◌≡◌, ◌<◌, length, IfOk, IfErr};
 ghost use Rattle.ods_base.specs.Block.{IsBlock};
 ghost use Rattle.ods_order.specs.Order.{block_count, container_size};
@@ -8,7 +8,8 @@ use crate::{Order, OrderFault};
 use ods_base::{Block, Image};
 use std::alloc::Global;
 
-/// The volume in a container of this order: its sectors, in the order of the volume. Besides the image nothing of its size is made.
+/// Reads the volume of a container of this order: its sectors, in the order of the volume. The image is the only large allocation. If the size is
+/// wrong, the fault is `OtherSize`.
 pub fn read_volume(alloc: Global, order: Order, container: &[u8]) -> Result<Image, OrderFault>
     ensures ok { IfOk result (IsVolumeOf order container.now) }
     ensures err { IfErr result (IsNoVolume order container.now) }

@@ -1,4 +1,4 @@
-//! The volume written back into a container.
+//! Writing of a volume back into a container.
 ghost use Rattle.std.specs.Prelude.{◌≡◌, ◌+◌, ◌*◌, ◌<◌, ◌++◌, length, replicate, IfOk};
 ghost use Rattle.ods_base.specs.Image.{image_bytes};
 ghost use Rattle.ods_order.specs.Order.{block_count, container_size, sector_count, sector_size};
@@ -8,7 +8,7 @@ use crate::Order;
 use ods_base::Image;
 use std::alloc::{AllocError, Global};
 
-/// Writes the sectors of a volume to their places in a container. Every other byte stays.
+/// Writes the sectors of a volume into a container. Every other byte is unchanged.
 pub fn write_volume(order: Order, container: &mut [u8], image: &Image)
     requires size { length container.old ≡ container_size order }
     requires blocks { length image.now ≡ block_count order }
@@ -17,7 +17,8 @@ pub fn write_volume(order: Order, container: &mut [u8], image: &Image)
     write_contained_volume(order, container, image, &[]);
 }
 
-/// The same for a volume that has other bytes behind it in the sectors, as `contained_in` of `ods_container` finds them.
+/// Writes the sectors of a volume that has `behind` as other bytes after it, as `contained_in` of `ods_container` finds them. Every other byte is
+/// unchanged.
 pub fn write_contained_volume(order: Order, container: &mut [u8], image: &Image, behind: &[u8])
     requires size { length container.old ≡ container_size order }
     requires whole { 512 * length image.now + length behind.now ≡ 512 * block_count order }
@@ -50,7 +51,7 @@ fn sector<'a>(order: Order, image: &'a Image, behind: &'a [u8], n: usize) -> &'a
     &behind[at - end..at - end + size]
 }
 
-/// A container of zeros, for a new volume.
+/// Makes a container of zeros, for a new volume.
 pub fn empty_container(alloc: Global, order: Order) -> Result<Vec<u8>, AllocError>
     ensures { IfOk result (λ bytes. bytes.items ≡ replicate (container_size order) 0) }
 {

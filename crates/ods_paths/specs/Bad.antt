@@ -1,4 +1,4 @@
--- What is bad about a text that is no path.
+-- The reasons why a text is not a valid path.
 use Rattle.std.specs.Prelude.{◌≡◌, ◌≢◌, ℕ, true, false, List, [], drop, Option}
 use Rattle.ods_base.specs.declared.file_id.FileId.{FileId}
 use Rattle.ods_paths.specs.declared.versions.Versions.{Versions}
@@ -8,7 +8,7 @@ use Rattle.ods_paths.specs.Numbers.{IsId}
 use Rattle.ods_paths.specs.Patterns.{IsPattern}
 use Rattle.ods_paths.specs.Paths.{Folder, Said, Says, SpellsFolder, name_text, kind_text, IsDotted, IsVersions, separator_of, folder_text, more_text, files_text, begins_id, IsClosed, past_device}
 
--- the text of files, which is bad in this part
+-- the text of files is bad in this part
 abbrev pub IsBadFiles : List ℕ → BadPath → Type 0
 IsBadFiles text bad.Name = ¬ IsPattern 9 (name_text text)
 IsBadFiles text bad.Type = ¬ IsPattern 3 (kind_text text)
@@ -19,7 +19,7 @@ IsBadFiles text bad.Id = ⊥
 IsBadFiles text bad.Bracket = ⊥
 IsBadFiles text bad.Directory = ⊥
 
--- the texts of a DIR, of one more directory and of FILES, which are bad in this part
+-- the texts of a DIR, of one more directory and of FILES are bad in this part
 abbrev pub IsBadWithin : ℕ → List ℕ → List ℕ → List ℕ → BadPath → Type 0
 IsBadWithin separator dir more files bad.Directory = (f : Folder) → ¬ SpellsFolder separator dir more f
 IsBadWithin separator dir more files bad.Name = (files ≢ []) × IsBadFiles files bad.Name
@@ -34,7 +34,7 @@ IsBadWithin separator dir more files bad.Bracket = ⊥
 abbrev pub IsBadPart : List ℕ → BadPath → Type 0
 IsBadPart text e = (begins_id text ≡ false) × IsBadWithin (separator_of text) (folder_text text) (more_text text) (files_text text) e
 
--- a text without a device says nothing, for this reason
+-- a text without a device has no meaning, for this reason
 abbrev pub IsBadHere : List ℕ → BadPath → Type 0
 IsBadHere text bad.Empty = ⊥
 IsBadHere text bad.Id = (begins_id text ≡ true) × ((f : FileId) → ¬ IsId (drop 1 text) f)
@@ -45,7 +45,7 @@ IsBadHere text bad.Type = IsBadPart text bad.Type
 IsBadHere text bad.NoDot = IsBadPart text bad.NoDot
 IsBadHere text bad.Version = IsBadPart text bad.Version
 
--- the text is no path, for this reason
+-- the text is not a valid path, for this reason
 abbrev pub IsBad : List ℕ → BadPath → Type 0
 IsBad text bad.Empty = text ≡ []
 IsBad text bad.Id = IsBadHere (past_device text) bad.Id
@@ -56,10 +56,10 @@ IsBad text bad.Type = IsBadHere (past_device text) bad.Type
 IsBad text bad.NoDot = IsBadHere (past_device text) bad.NoDot
 IsBad text bad.Version = IsBadHere (past_device text) bad.Version
 
--- a text says one thing at most
+-- a text has at most one meaning
 abbrev pub SaysOneThing : Type 0
 SaysOneThing = (text : List ℕ) (s t : Said) → Says text s → Says text t → s ≡ t
 
--- a text that is bad says nothing
+-- a bad text has no meaning
 abbrev pub BadSaysNothing : Type 0
 BadSaysNothing = (text : List ℕ) (e : BadPath) (s : Said) → IsBad text e → Says text s → ⊥

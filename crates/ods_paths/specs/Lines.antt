@@ -1,4 +1,4 @@
--- An entry of a listing, without the places of its texts in memory.
+-- An entry of a listing, without the addresses of its texts in memory.
 use Rattle.ods_paths.specs.declared.order.Shown.{Shown}
 use Rattle.ods_paths.specs.Order.{Line}
 

@@ -12,14 +12,14 @@ use Rattle.ods_paths.specs.declared.versions.Versions.TheVariants.{Exact, Highes
 abbrev pub IsId : List ℕ → FileId → Type 0
 IsId text f = Has 44 text × IsSmallNumber (before_first (is 44) text) f.number × IsSmallNumber (after_first (is 44) text) f.sequence × (1 ≤ f.number)
 
--- what stands behind the `;`: `0` for the highest version, `-1` for the lowest, `*` for every one, or a version, 1 to 32,767
+-- the text after the `;`: `0` for the highest version, `-1` for the lowest, `*` for all, or a version, 1 to 32,767
 abbrev pub IsVersion : List ℕ → Versions → Type 0
 IsVersion text Highest = text ≡ codes "0"
 IsVersion text Lowest = text ≡ codes "-1"
 IsVersion text Every = text ≡ codes "*"
 IsVersion text (Exact n) = IsSmallNumber text n × (1 ≤ n) × (n ≤ 32767)
 
--- the one version that a text gives
+-- the single version that a text specifies
 abbrev pub IsExact : List ℕ → Versions → Type 0
 IsExact text v = (n : ℕ) × (v ≡ Exact n) × IsSmallNumber text n × (1 ≤ n) × (n ≤ 32767)
 
@@ -31,7 +31,7 @@ is_octal_digit c = nat_le 48 c && nat_le c 55
 abbrev pub is_octal : List ℕ → Bool
 is_octal text = nat_le 1 (length text) && nat_le (length text) 3 && list_all is_octal_digit text && nat_le (octal_value 0 text) 255
 
--- the group or the member that a text is: `*` for each, or one in octal; any other text is none
+-- the group or the member of a text: `*` for all, or one in octal. Any other text has none.
 abbrev pub choice_of : List ℕ → Option (Option ℕ)
 choice_of text = if bytes_eq text (codes "*") then Some None else (if is_octal text then Some (Some (octal_value 0 text)) else None)
 

@@ -6,17 +6,17 @@ use Rattle.std.specs.declared.cmp.Ordering.TheVariants.{Equal}
 use Rattle.std.specs.Cmp.Lexicographic.{slice_cmp}
 use Rattle.std.specs.Cmp.{IsTotalOrder}
 
--- what a listing is in order of: the texts of a name and of its type, and the version
+-- the key of a listing: the texts of a name and of its type, and the version
 pub record Line : Type 0 where
   pub name : List ℕ
   pub kind : List ℕ
   pub version : ℕ
 
--- by name, then by type, compared as bytes of their text, each by itself; then by version, falling
+-- by name, then by type, each compared as bytes of its text; then by version, in descending order
 abbrev pub listing_cmp : Line → Line → Ordering
 listing_cmp a b = ordering_then (slice_cmp nat_cmp a.name b.name) (ordering_then (slice_cmp nat_cmp a.kind b.kind) (nat_cmp b.version a.version))
 
--- Any two lines are in order one way or the other, and only equal ones are both: a listing has one order.
+-- Any two lines are in order one way or the other, and only equal lines are in order both ways. So a listing has one order.
 pub record IsListingOrder : Type 0 where
   pub total : IsTotalOrder listing_cmp
   pub equal : (a b : Line) → listing_cmp a b ≡ Equal → a ≡ b

@@ -1,10 +1,10 @@
--- Patterns of names, and what they match.
+-- Patterns of names, and the texts that they match.
 use Rattle.std.specs.Prelude.{◌≡◌, ℕ, ◌≤◌, ◌==◌, ◌&&◌, ◌||◌, nat_le, not, Bool, false, List, [], ◌∷◌, ◌++◌, length, map, count_by, ◌⊎◌}
 use Rattle.std.specs.Char.{to_ascii_uppercase}
 use Rattle.std.specs.List.{AllPass, list_any, ends_with}
 use Rattle.std.specs.Prelude.{nat_eq}
 
--- small letters are capitals
+-- the text with capital letters in place of small letters
 abbrev pub capitals : List ℕ → List ℕ
 capitals text = map to_ascii_uppercase text
 
@@ -26,11 +26,11 @@ pub record IsPattern (most : ℕ) (text : List ℕ) : Type 0 where
   pub few : count_by (λ c. not (c == 42)) text ≤ most
   pub last : ends_with nat_eq text (95 ∷ []) ≡ false
 
--- what one character of a pattern stands for: `*` for any run of characters, `?` for exactly one, and every other for itself
+-- the texts that one character of a pattern matches: `*` any run of characters, `?` exactly one, and every other character itself
 abbrev pub StandsFor : ℕ → List ℕ → Type 0
 StandsFor c run = (c ≡ 42) ⊎ ((c ≡ 63) × (length run ≡ 1)) ⊎ (run ≡ c ∷ [])
 
--- the pattern matches the text: it falls into runs, one for each character of the pattern, in order
+-- the pattern matches the text: the text consists of consecutive runs, one for each character of the pattern, in order
 abbrev pub Matches : List ℕ → List ℕ → Type 0
 Matches [] text = text ≡ []
 Matches (c ∷ pattern) text = (run rest : List ℕ) × (text ≡ run ++ rest) × StandsFor c run × Matches pattern rest

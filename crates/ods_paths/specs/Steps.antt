@@ -6,7 +6,8 @@ use Rattle.ods_text.specs.Cuts.{is}
 use Rattle.ods_paths.specs.Numbers.{choice_of}
 use Rattle.ods_paths.specs.Patterns.{IsPattern, capitals}
 
--- A step leads from a directory to some in it: to that of a group and a member, of each where none is said; or to those that a pattern names.
+-- A step from a directory to directories in it: to the directory of a group and a member, or to the directories that match a pattern. None selects
+-- every group or every member.
 pub data Step : Type 0 where
   Numbers : Option ℕ → Option ℕ → Step
   Pattern : List ℕ → Step
@@ -16,7 +17,7 @@ step_by text (Some group) (Some member) = Numbers group member
 step_by text (Some group) None = Pattern (capitals text)
 step_by text None member = Pattern (capitals text)
 
--- the step that a text says: a group and a member, with a comma between them; or else a pattern
+-- the step of a text: a group and a member, with a comma between them; otherwise a pattern
 abbrev pub step_of : List ℕ → Step
 step_of text = step_by text (choice_of (before_first (is 44) text)) (choice_of (after_first (is 44) text))
 
@@ -38,7 +39,7 @@ is_zeros (Pattern name) = false
 abbrev pub names_master : List ℕ → Bool
 names_master text = if bytes_eq text (codes "000000") then true else is_zeros (step_of text)
 
--- the text of the steps; none where the text is empty, or the master directory
+-- the text of the steps; none if the text is empty or is the master directory
 abbrev pub steps_text : List ℕ → Option (List ℕ)
 steps_text [] = None
 steps_text (c ∷ text) = if names_master (c ∷ text) then None else Some (c ∷ text)
@@ -51,7 +52,7 @@ abbrev pub one_more : Option (List ℕ) → List (List ℕ)
 one_more None = []
 one_more (Some text) = text ∷ []
 
--- the texts of the steps: those between the separators of a text, and one more, where these are said
+-- the texts of the steps: the texts between the separators of `text`, and `more`, if these are given
 abbrev pub step_texts : ℕ → Option (List ℕ) → Option (List ℕ) → List (List ℕ)
 step_texts separator text more = between separator text ++ one_more more
 

@@ -1,4 +1,4 @@
--- What paths say, without the places of their texts in memory.
+-- The meaning of paths, without the addresses of their texts in memory.
 use Rattle.std.specs.Prelude.{ℕ, List, map, Option, Some, None, option_map}
 use Rattle.ods_paths.specs.declared.files.Files.{Files}
 use Rattle.ods_paths.specs.declared.folders.Folder.{Folder}

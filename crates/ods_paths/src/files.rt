@@ -1,4 +1,4 @@
-//! The part of a path that names files.
+//! The part of a path that selects files.
 ghost use Rattle.std.specs.Prelude.{◌≡◌, ◌↔◌, ◌⊎◌, true, IsTrue, MatchResult};
 ghost use Rattle.std.specs.List.{before_first};
 ghost use Rattle.ods_text.specs.{Cuts.IsFirst, Cuts.Has, Cuts.cut_of, Cuts.is, One.IsTheOne};
@@ -16,7 +16,7 @@ const TYPE_SIZE: usize = 3;
 /// Any type.
 const ANY: &[u8] = b"*";
 
-/// Files that a path names: the patterns of their name and of their type, in either case, and their versions, where they are said.
+/// The files that a path selects: the patterns of their name and type, in either case, and their versions, if the path specifies them.
 #[derive(Clone, Copy)]
 pub struct Files<'a> {
     pub name: &'a [u8],
@@ -24,7 +24,7 @@ pub struct Files<'a> {
     pub versions: Option<Versions>,
 }
 
-/// The files that a text names, as `A*.TXT;1`.
+/// Reads the text that selects files, such as `A*.TXT;1`.
 pub(crate) fn read_files(text: &[u8]) -> Result<Files<'_>, BadPath>
     ensures { MatchResult result (λ f. SpellsFiles text.now (files f)) (IsBadFiles text.now) }
 {

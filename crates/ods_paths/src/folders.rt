@@ -1,4 +1,4 @@
-//! The part of a path that names directories.
+//! The part of a path that selects directories.
 ghost use Rattle.std.specs.Prelude.{◌≡◌, ◌↔◌, [], true, IsTrue, MatchOption, option_map};
 ghost use Rattle.ods_text.specs.Cuts.{Has, Lacks};
 ghost use Rattle.ods_paths.specs.{Paths.Folder as Folder_said, Paths.SpellsFolder, Paths.place_text, Steps.unless_empty, Views.folder};
@@ -6,14 +6,14 @@ ghost use Rattle.ods_paths.specs.{Paths.Folder as Folder_said, Paths.SpellsFolde
 use crate::steps::{Steps, are_steps, steps_text};
 use ods_text::{cut_at, has_byte};
 
-/// Directories that a path names: those to which its steps lead, and whether all directories below belong to them.
+/// The directories that a path selects: the directories that its steps reach, and whether all directories below belong to them.
 #[derive(Clone, Copy)]
 pub struct Folder<'a> {
     pub steps: Steps<'a>,
     pub below: bool,
 }
 
-/// The directories that a text names, with this separator between steps, and one more behind it, where that is not empty.
+/// Reads the directories that a text selects, with this separator between steps. The step `more` follows, unless it is empty.
 pub(crate) fn read_folder<'a>(separator: u8, text: &'a [u8], more: &'a [u8]) -> Option<Folder<'a>>
     ensures { MatchOption result ((f : Folder_said) → SpellsFolder separator text.now more.now f → ⊥) (λ f. SpellsFolder separator text.now more.now (folder f)) }
 {

@@ -1,12 +1,12 @@
 //! Laws of paths.
 ghost use Rattle.ods_paths.specs.Bad.{SaysOneThing, BadSaysNothing};
 
-/// A text says one thing at most.
+/// Proves that a text has at most one meaning as a path.
 pub fn says_one_thing()
     ensures { SaysOneThing }
 {}
 
-/// A text that is bad says nothing.
+/// Proves that a bad text has no meaning as a path.
 pub fn bad_says_nothing()
     ensures { BadSaysNothing }
 {}

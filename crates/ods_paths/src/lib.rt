@@ -1,4 +1,5 @@
-//! Paths and patterns of Files-11 volumes: what a text says, which names a pattern matches, the order of a listing, and which versions are picked.
+//! Paths and patterns of Files-11 volumes: the meaning of a path, the names that a pattern matches, the order of a listing, and the picked
+//! versions.
 #![tactic(auto)]
 
 mod bad;

@@ -1,4 +1,4 @@
-//! Which names a pattern matches.
+//! The match of a pattern with a name or a type.
 ghost use Rattle.std.specs.Prelude.{◌≡◌, ◌↔◌, ℕ, ◌+◌, ◌<◌, ◌≤◌, List, ◌∷◌, length, IsTrue, true, false, slice_index_or, ◌⊎◌};
 ghost use Rattle.ods_paths.specs.Patterns.{Matches, capitals};
 ghost use Rattle.ods_paths.specs.Rows.{IsRow, OpensRuns, TakesOne};
@@ -6,7 +6,7 @@ ghost use Rattle.ods_paths.specs.Rows.{IsRow, OpensRuns, TakesOne};
 /// The most characters of a name.
 const NAME_SIZE: usize = 9;
 
-/// Whether the pattern, in either case, matches the text of a name or a type.
+/// Returns whether the pattern, in either case, matches the text of a name or a type.
 pub fn matches(pattern: &[u8], text: &[u8]) -> bool
     requires { length text.now ≤ 9 }
     ensures { IsTrue result ↔ Matches (capitals pattern.now) text.now }

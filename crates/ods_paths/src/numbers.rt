@@ -6,7 +6,7 @@ ghost use Rattle.ods_paths.specs.Numbers.{choice_of, IsNumberedName};
 
 use ods_text::{cut_at, is_text, read_octal};
 
-/// What stands before the first `byte`, and what stands behind it; all, and nothing, where there is none.
+/// Returns the text before the first `byte`, and the text after it. If there is no such byte, returns the whole text and an empty text.
 pub(crate) fn cut_first(byte: u8, text: &[u8]) -> (&[u8], &[u8])
     ensures { (result.0.now ≡ before_first (is byte) text.now) × (result.1.now ≡ after_first (is byte) text.now) }
 {
@@ -16,7 +16,7 @@ pub(crate) fn cut_first(byte: u8, text: &[u8]) -> (&[u8], &[u8])
     }
 }
 
-/// The group or the member that a text is, `Some(None)` for each; `None` for any other text.
+/// Reads a group or a member: `Some(Some(n))` for one, `Some(None)` for all, and `None` for any other text.
 pub(crate) fn read_choice(text: &[u8]) -> Option<Option<u8>>
     ensures { result ≡ choice_of text.now }
 {
@@ -29,8 +29,8 @@ pub(crate) fn read_choice(text: &[u8]) -> Option<Option<u8>>
     }
 }
 
-/// The group and the member of which a directory's name is the six octal digits, as `001002`; `None` for every other name.
-/// The group and the member have three digits each, and are at most octal 377.
+/// Returns the group and the member in the name of a directory, such as `001002`. Returns `None` for every other name.
+/// The group and the member have three octal digits each, and are at most octal 377.
 pub fn numbered_name(name: &[u8]) -> Option<(u8, u8)>
     ensures { MatchOption result ((group member : ℕ) → IsNumberedName name.now group member → ⊥) (λ n. IsNumberedName name.now n.0 n.1) }
 {

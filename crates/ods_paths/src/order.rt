@@ -4,7 +4,7 @@ ghost use Rattle.ods_paths.specs.{Order.listing_cmp, Order.IsListingOrder, Lines
 
 use std::cmp::Ordering;
 
-/// What a listing shows of an entry: the texts of its name and of its type, and its version.
+/// The part of an entry that a listing shows: the texts of its name and type, and its version.
 #[derive(Clone, Copy)]
 pub struct Shown<'a> {
     pub name: &'a [u8],
@@ -12,7 +12,7 @@ pub struct Shown<'a> {
     pub version: u16,
 }
 
-/// How two entries stand in a listing: by name, then by type, each compared as bytes; then by version, falling.
+/// Compares two entries of a listing: by name, then by type, each as bytes, then by version, in descending order.
 pub fn compare(a: &Shown<'_>, b: &Shown<'_>) -> Ordering
     ensures { result ≡ listing_cmp (line a.now) (line b.now) }
 {
@@ -22,7 +22,7 @@ pub fn compare(a: &Shown<'_>, b: &Shown<'_>) -> Ordering
         .then(b.version.cmp(&a.version))
 }
 
-/// The order of a listing is total, and only equal entries are equal in it.
+/// Proves that the order of a listing is total, and that only equal entries are equal in it.
 pub fn is_listing_order()
     ensures { IsListingOrder }
 {}

@@ -1,4 +1,4 @@
-//! What stands in front of a path, and what its last part names.
+//! The texts before a path, and the meaning of its last part.
 ghost use Rattle.std.specs.Prelude.{◌≡◌};
 ghost use Rattle.std.specs.List.{list_all, list_any};
 ghost use Rattle.ods_text.specs.Cuts.{is};
@@ -7,7 +7,7 @@ ghost use Rattle.ods_paths.specs.{Numbers.is_octal_digit, Paths.is_device, Paths
 use crate::has_wildcard;
 use ods_text::cut_at;
 
-/// The text without a device and its `:` in front, as `DK0:`.
+/// Returns the text after a leading device and its `:`, such as `DK0:`.
 pub(crate) fn past_device(text: &[u8]) -> &[u8]
     ensures { result.now ≡ past_device text.now }
 {
@@ -52,7 +52,7 @@ fn is_letter(c: u8) -> bool
     matches!(c, b'A'..=b'Z' | b'a'..=b'z')
 }
 
-/// The text without one `/` in front, behind which no other stands.
+/// Returns the text after one leading `/`. If a second `/` follows the first, the text is unchanged.
 pub(crate) fn past_slash(text: &[u8]) -> &[u8]
     ensures { result.now ≡ past_slash text.now }
 {
@@ -75,7 +75,7 @@ fn begins_slash(text: &[u8]) -> bool
     }
 }
 
-/// Whether the last part of a path names one more directory, and no files.
+/// Returns whether the last part of a path is one more directory, and selects no files.
 pub(crate) fn names_directory(text: &[u8]) -> bool
     ensures { result ≡ names_directory text.now }
 {

@@ -1,4 +1,4 @@
-//! What the text of a path says.
+//! The meaning of the text of a path.
 ghost use Rattle.std.specs.Prelude.{◌∷◌, [], MatchResult};
 ghost use Rattle.std.specs.List.{after_last};
 ghost use Rattle.ods_text.specs.{Cuts.is, One.IsTheOne};
@@ -11,16 +11,16 @@ use crate::{BadPath, Files, Folder};
 use ods_base::FileId;
 use ods_text::{cut_at, cut_last, read_small};
 
-/// What a path says: a file by its ID, or directories and, where they are said, files in them.
+/// A parsed path: a file by its ID, or directories and, if the path specifies them, files in them.
 #[derive(Clone, Copy)]
 pub enum Path<'a> {
     /// The file with this ID.
     File(FileId),
-    /// Directories, and files in them where the path names some.
+    /// Directories, and the files in them if the path selects some.
     Within(Folder<'a>, Option<Files<'a>>),
 }
 
-/// What the text of a path says, or what is bad about it.
+/// Parses the text of a path. An error states the bad part of the text.
 pub fn parse_path(text: &[u8]) -> Result<Path<'_>, BadPath>
     ensures { MatchResult result (λ p. Says text.now (said p)) (IsBad text.now) }
 {

@@ -3,7 +3,7 @@ ghost use Rattle.std.specs.Prelude.{◌≡◌, ◌↔◌, IsTrue, ◌≤◌, cou
 ghost use Rattle.std.specs.List.{AllPass, list_all};
 ghost use Rattle.ods_paths.specs.Patterns.{is_name_char as name_char, is_wildcard as wildcard, has_wildcard as wild, IsPattern};
 
-/// Whether the text is a pattern for a name or a type of at most `most` characters.
+/// Returns whether the text is a pattern for a name or a type of at most `most` characters.
 pub fn is_pattern(most: usize, text: &[u8]) -> bool
     ensures { IsTrue result ↔ IsPattern most text.now }
 {
@@ -12,7 +12,7 @@ pub fn is_pattern(most: usize, text: &[u8]) -> bool
         && !text.ends_with(b"_")
 }
 
-/// Whether the text has a `*` or a `?`.
+/// Returns whether the text has a `*` or a `?`.
 pub fn has_wildcard(text: &[u8]) -> bool
     ensures { result ≡ wild text.now }
 {

@@ -1,11 +1,11 @@
-//! Which versions a choice picks of those at hand.
+//! The choice of versions from the existing versions.
 ghost use Rattle.std.specs.Prelude.{◌≡◌, ◌≤◌, ◌↔◌, ℕ, max, IsTrue};
 ghost use Rattle.std.specs.List.{All};
 ghost use Rattle.ods_paths.specs.Picked.{AreFromTo};
 
 use crate::Versions;
 
-/// Versions from `low` to `high`.
+/// The versions from `low` to `high`.
 #[derive(Clone, Copy, Debug, PartialEq, Eq)]
 pub struct Span {
     pub low: u16,
@@ -13,7 +13,7 @@ pub struct Span {
 }
 
 impl Span {
-    /// Whether the version is one of these.
+    /// Returns whether the version is in the span.
     pub fn has(&self, version: u16) -> bool
         ensures { IsTrue result ↔ ((self.now.low ≤ version) × (version ≤ self.now.high)) }
     {
@@ -21,7 +21,7 @@ impl Span {
     }
 }
 
-/// The range of versions of which the choice picks those that are at hand.
+/// Returns the range of the versions that the choice picks from `versions`.
 pub fn choose_span(choice: Versions, versions: &[u16]) -> Span
     ensures { AreFromTo choice versions.now result.low result.high }
 {

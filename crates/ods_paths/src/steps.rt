@@ -10,19 +10,19 @@ use ods_text::{cut_at, cut_last, has_byte, is_text};
 /// The most characters of a name.
 const NAME_SIZE: usize = 9;
 
-/// A step from a directory to some in it.
+/// A step from a directory to directories in it.
 #[derive(Clone, Copy)]
 pub enum Step<'a> {
-    /// To the directory of a group and a member, of each where there is `None`.
+    /// To the directory of a group and a member. `None` selects every group or every member.
     Numbers {
         group: Option<u8>,
         member: Option<u8>,
     },
-    /// To those that a pattern names.
+    /// To the directories whose names match a pattern.
     Pattern(&'a [u8]),
 }
 
-/// Steps as a text spells them: those between its separators, and one more.
+/// The steps of a text: the steps between its separators, and one more.
 #[derive(Clone, Copy)]
 pub struct Steps<'a> {
     pub text: Option<&'a [u8]>,
@@ -31,7 +31,7 @@ pub struct Steps<'a> {
 }
 
 impl<'a> Steps<'a> {
-    /// The first step, and those behind it; `None` where there is no step.
+    /// Returns the first step and the steps after it. Returns `None` if there is no step.
     pub fn split_first(&self) -> Option<(Step<'a>, Steps<'a>)>
         ensures { MatchOption result (steps self.now ≡ []) (λ p. steps self.now ≡ step p.0 ∷ steps p.1) }
     {
@@ -41,7 +41,7 @@ impl<'a> Steps<'a> {
         }
     }
 
-    /// The steps before the last one, and that; `None` where there is no step.
+    /// Returns the steps before the last one, and the last one. Returns `None` if there is no step.
     pub fn split_last(&self) -> Option<(Steps<'a>, Step<'a>)>
         ensures { MatchOption result (steps self.now ≡ []) (λ p. steps self.now ≡ steps p.0 ++ step p.1 ∷ []) }
     {
@@ -52,7 +52,7 @@ impl<'a> Steps<'a> {
     }
 }
 
-/// No step: the master directory itself.
+/// Returns the empty list of steps, which selects the master directory itself.
 pub fn no_steps() -> Steps<'static>
     ensures { steps result ≡ [] }
 {
@@ -138,7 +138,7 @@ fn split_last_text<'a>(steps: &Steps<'a>) -> Option<(Steps<'a>, &'a [u8])>
     ))
 }
 
-/// Whether each text is a step.
+/// Returns whether each text is a step.
 pub(crate) fn are_steps(steps: &Steps<'_>) -> bool
     ensures { IsTrue result ↔ All IsStep (texts steps.now) }
 {
@@ -152,7 +152,7 @@ pub(crate) fn are_steps(steps: &Steps<'_>) -> bool
     true
 }
 
-/// The step that a text says: a group and a member, with a comma between them; or else a pattern.
+/// Reads the step of a text: a group and a member with a comma between them, otherwise a pattern.
 pub fn read_step(text: &[u8]) -> Step<'_>
     ensures { step result ≡ step_of text.now }
 {
@@ -183,7 +183,7 @@ fn is_name(text: &[u8]) -> bool
     !text.is_empty() && is_pattern(NAME_SIZE, text)
 }
 
-/// The text of the steps; `None` where the text is empty, or the master directory.
+/// Returns the text of the steps. Returns `None` if the text is empty or is the master directory.
 pub(crate) fn steps_text(text: &[u8]) -> Option<&[u8]>
     ensures { option_map (λ t. t.now) result ≡ steps_text text.now }
 {

@@ -1,11 +1,11 @@
-//! Which versions of a name a path chooses.
+//! The versions of a name that a path chooses.
 ghost use Rattle.ods_text.specs.One.{IsTheOne};
 ghost use Rattle.ods_paths.specs.Numbers.{IsVersion, IsExact};
 
 use ods_base::LAST_VERSION;
 use ods_text::{is_text, read_small};
 
-/// Which versions of a name are chosen.
+/// The chosen versions of a name.
 #[derive(Clone, Copy, Debug, PartialEq, Eq)]
 pub enum Versions {
     /// This version, 1 to 32,767.
@@ -18,7 +18,7 @@ pub enum Versions {
     Every,
 }
 
-/// The versions that a text chooses, which stands behind the `;`.
+/// Reads the versions that the text after the `;` chooses.
 pub(crate) fn read_version(text: &[u8]) -> Option<Versions>
     ensures { IsTheOne (IsVersion text.now) result }
 {

@@ -1,4 +1,4 @@
--- Codes of the values that this crate's types stand for.
+-- Codes of the values of this crate's types.
 use Rattle.std.specs.Prelude.{◌≡◌, ℕ, List, ◌⊎◌, refl}
 use Rattle.std.proofs.Common.{inl, inr}
 use Rattle.std.specs.Coded.{Coded, code_by, coded×, coded⊎, coded_ℕ, coded_list}

@@ -16,13 +16,13 @@ body_of (plain.Plain attributes blocks) = Plain attributes blocks.items
 abbrev pub file_of : PlainFile → File
 file_of f = record { owner = f.owner; protection = f.protection; user_char = f.user_char; system_char = f.system_char; ident = f.ident; body = body_of f.body }
 
--- only files 1 to 5 are the system's
+-- only files 1 to 5 may be system files
 abbrev pub may_have : FileId → Body → Bool
 may_have id System = nat_le id.number 5
 may_have id (Directory names) = true
 may_have id (Plain attributes blocks) = true
 
--- the body is that of a plain file
+-- the file is plain
 abbrev pub is_plain : Body → Bool
 is_plain System = false
 is_plain (Directory names) = false

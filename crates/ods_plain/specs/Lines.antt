@@ -25,7 +25,7 @@ names_in ls = names.from_sorted (entries_of ls)
 abbrev pub is_named : Listed → Bool
 is_named l = length l.name.words == 3
 
--- what each list of lines of the program is
+-- the invariant of each list of lines of the program
 pub record AreLines (ls : List Listed) : Type 0 where
   pub rising : T (names.is_sorted (slice_cmp nat_cmp) (entries_of ls))
   pub named : IsTrue (list_all is_named ls)
@@ -44,7 +44,7 @@ abbrev pub lower_of : Option ℕ → ℕ → ℕ
 lower_of None v = v
 lower_of (Some w) v = min w v
 
--- where a key goes: before the first line with a higher one
+-- the index for a key: before the first line with a higher key
 abbrev pub gap_for : List ℕ → List Listed → ℕ
 gap_for k [] = 0
 gap_for k (l ∷ ls) = if is_lt (slice_cmp nat_cmp k (key_of l.name l.version)) then 0 else suc (gap_for k ls)

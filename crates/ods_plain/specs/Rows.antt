@@ -10,7 +10,7 @@ use Rattle.ods_request.specs.Equal.{same_id}
 abbrev pub catalogue_in : List (FileId × File) → List FileId → ℕ → Catalogue
 catalogue_in rows past default = record { files = map.from_entries rows; past = set.from_list past; default = default }
 
--- where the file with this ID stands, or the length of the list
+-- the index of the file with this ID, or the length of the list
 abbrev pub place_of : FileId → List (FileId × File) → ℕ
 place_of id [] = 0
 place_of id (r ∷ rows) = if same_id r.0 id then 0 else suc (place_of id rows)

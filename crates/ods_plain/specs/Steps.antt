@@ -11,7 +11,7 @@ use Rattle.ods_request.specs.Table.{creates}
 use Rattle.ods_plain.specs.declared.steps.StepError.{StepError}
 use Rattle.ods_plain.specs.declared.steps.StepError.TheVariants.{Refused, NotNew, NoMemory}
 
--- The requests for which the plain program may want memory: a body or a list grows, or an answer has a list. Stat may lack room for a count.
+-- The requests for which the plain program may run out of memory: a body or a list grows, or an answer has a list. A count of Stat may not fit.
 abbrev pub may_lack_room : Request → Bool
 may_lack_room (Create name version blocks stamp) = true
 may_lack_room (Extend file blocks) = true
@@ -26,7 +26,7 @@ may_lack_room (Lines dir) = true
 may_lack_room (Stat file) = true
 may_lack_room (SetUser file attributes) = false
 
--- Why no step is made: the first refusal; or, where there is none, an ID that a new file may not get; or want of memory.
+-- Why no step is made: the first refusal. Otherwise an ID that a new file may not have, or out of memory.
 abbrev pub IsStepError : Catalogue → Uic → Request → FileId → StepError → Type 0
 IsStepError C who r id (Refused refusal) = fault_of C who r ≡ Some refusal
 IsStepError C who r id NotNew = (fault_of C who r ≡ None) × (creates r ≡ true) × (is_new C id ≡ false)

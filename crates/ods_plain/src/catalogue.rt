@@ -1,4 +1,4 @@
-//! A catalogue: files under their IDs, the IDs that were ever given, and the protection of new files.
+//! A catalogue: files by their IDs, the IDs that were ever assigned, and the protection of new files.
 ghost use Rattle.std.specs.Prelude.{◌≡◌, ◌≢◌, true, None, Some, MatchOption, IsTrue, IfOk, OnOk, OnErr};
 ghost use Rattle.std.specs.FinMap as finite;
 ghost use Rattle.std.specs.FinSet as set;
@@ -13,8 +13,8 @@ use ods_request::{Answer, Listing, Request, Stamp, Stat};
 use std::alloc::{AllocError, Global};
 use std::marker::Model;
 
-/// A catalogue. A contract sees the catalogue of the definitions. Tests use it as their oracle, since its calls give
-/// the answers and changes that the definitions say.
+/// A catalogue. A contract sees the catalogue of the definitions. Tests use it as their oracle, because its calls return the answers and changes of
+/// the definitions.
 #[derive(Drop, Debug)]
 pub struct Catalogue {
     alloc: Global,
@@ -35,7 +35,7 @@ impl Model for Catalogue {
 }
 
 impl Catalogue {
-    /// A catalogue with no file and no past, whose new files get this protection word.
+    /// Makes a catalogue with no file and no past. New files receive this protection word.
     pub fn new(alloc: Global, protection: u16) -> Catalogue
         ensures { result ≡ record { files = finite.empty; past = set.empty; default = protection } }
     {
@@ -47,7 +47,7 @@ impl Catalogue {
         }
     }
 
-    /// The file under an ID.
+    /// Returns the file with this ID, or `None` if there is none.
     pub fn file(&self, id: FileId) -> Option<&File>
         ensures { MatchOption result (finite.get self.now.files id ≡ None) (λ f. finite.get self.now.files id ≡ Some (file_of f.now)) }
     {
@@ -71,7 +71,7 @@ impl Catalogue {
         }
     }
 
-    /// Whether a new file may get this ID: it was never given, and its number, 6 or more, is no file's.
+    /// Returns whether a new file may have this ID: it was never assigned, and its number is at least 6 and belongs to no file.
     pub fn is_new(&self, id: FileId) -> bool
         ensures { result ≡ is_new self.now id }
     {
@@ -84,7 +84,7 @@ impl Catalogue {
         id.number >= 6
     }
 
-    /// Puts a file under an ID that no file has, which is from then on one of the past.
+    /// Adds a file with an ID that no file has, and adds the ID to the past. When out of memory, the catalogue is unchanged.
     pub fn add(&mut self, id: FileId, file: File) -> Result<(), AllocError>
         requires absent { finite.get self.old.files id ≡ None }
         requires lawful { IsTrue (may_have id (body_of file.body)) }

@@ -1,4 +1,4 @@
-//! Why a request is refused: for each request a table of conditions with their refusals, the first of which is answered.
+//! The reasons why a request is refused: for each request a table of conditions with their refusals. The first condition that holds decides.
 ghost use Rattle.std.specs.Prelude.{◌≡◌};
 ghost use Rattle.ods_request.specs.Faults.{first_of as first_refusal, fault_of, is_map as is_map_file, is_reserved as is_reserved_file};
 
@@ -73,7 +73,7 @@ impl Catalogue {
         ])
     }
 
-    /// The first refusal that holds of a request, or none.
+    /// Returns the first refusal that holds for a request, or `None`.
     #[tactic(auto, unfolding(ods_request::specs::Faults::fault_of))]
     pub fn fault(&self, who: &Uic, request: &Request) -> Option<Refusal>
         ensures { result ≡ fault_of self.now who.now request.now }

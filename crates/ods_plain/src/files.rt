@@ -1,4 +1,4 @@
-//! Files, and what a request asks of one.
+//! Files, and what a request requires of one.
 ghost use Rattle.std.specs.Prelude.{◌≡◌, ◌==◌, ◌<◌, ◌+◌, ◌-◌, [], length, nat_lt, slice_index_or, unwrap_or, false, None, IsTrue, IfOk, OnOk, OnErr};
 ghost use Rattle.std.specs.FinMap as finite;
 ghost use Rattle.ods_base.specs.{Name.key_of, Names.picked_version, Names.last_version, Names.entered_version, Names.lines_of};
@@ -9,10 +9,10 @@ use ods_base::{Block, FileId, Listed, Name, Pick, Uic};
 use ods_request::{Kind, Right, Stat, permits};
 use std::alloc::{AllocError, Global};
 
-/// What a file is made of.
+/// The contents of a file by its kind.
 #[derive(Drop, Debug)]
 pub enum Body {
-    /// INDEXF.SYS or BITMAP.SYS, of which no blocks are kept.
+    /// INDEXF.SYS or BITMAP.SYS, without its blocks.
     System,
     /// A directory with these names.
     Directory(Names),
@@ -59,7 +59,7 @@ impl File {
         }
     }
 
-    /// Whether it may stand under this ID: only files 1 to 5 are the system's.
+    /// Returns whether the file may have this ID. Only files 1 to 5 may be system files.
     pub fn may_have(&self, id: FileId) -> bool
         ensures { result ≡ may_have id (body_of self.now.body) }
     {

@@ -1,4 +1,4 @@
-//! A plain and slow program beside the definitions of requests: a catalogue over vectors, whose calls answer what they define.
+//! A plain and slow program next to the definitions of requests: a catalogue over vectors, whose calls return the defined answers.
 #![tactic(auto)]
 
 mod catalogue;

@@ -117,7 +117,7 @@ fn take_out(lines: &mut Vec<Listed>, wanted: &[u16; 5])
 }
 
 impl Names {
-    /// No names.
+    /// Makes a directory without names.
     pub fn new(alloc: Global) -> Names
         ensures { result ≡ finite.empty }
     {
@@ -133,7 +133,7 @@ impl Names {
         self.lines.as_slice().len()
     }
 
-    /// The file under this name and version.
+    /// Returns the file with this name and version, or `None` if there is none.
     pub fn get(&self, name: &Name, version: u16) -> Option<FileId>
         ensures { result ≡ finite.get self.now (key_of name.now version) }
     {
@@ -158,7 +158,7 @@ impl Names {
         self.pick(name, Pick::Highest).unwrap_or(0)
     }
 
-    /// Puts a name in that is not there.
+    /// Adds a name that the directory does not have. When out of memory, the names are unchanged.
     pub fn insert(&mut self, name: Name, version: u16, file: FileId) -> Result<(), AllocError>
         requires { finite.contains_key self.old (key_of name version) ≡ false }
         ensures ok { OnOk result (self.new ≡ finite.insert self.old (key_of name version) file) }
@@ -181,7 +181,7 @@ impl Names {
         take_out(&mut self.lines, &key(name, version));
     }
 
-    /// The lines, in the order of their names and versions.
+    /// Returns the lines, in the order of their names and versions.
     pub fn lines(&self, alloc: Global) -> Result<Vec<Listed>, AllocError>
         ensures { IfOk result (λ lines. lines.items ≡ lines_of self.now) }
     {

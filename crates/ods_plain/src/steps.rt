@@ -1,4 +1,4 @@
-//! Steps of a catalogue: a request, its answer, and what it leaves.
+//! Steps of a catalogue: a request, its answer, and the resulting catalogue.
 ghost use Rattle.std.specs.Prelude.{◌≡◌, None, Some, IfOk, OnErr, IfErr};
 ghost use Rattle.ods_request.specs.{Faults.fault_of, Steps.step as step_of};
 ghost use Rattle.ods_plain.specs.declared.steps.StepError.TheVariants.{NoMemory};
@@ -9,16 +9,16 @@ use ods_request::{Answer, Refusal, Request};
 use std::alloc::AllocError;
 use thiserror::Error;
 
-/// Why a step was not made. The catalogue is then as it was.
+/// The reason why a step was not made. The catalogue is then unchanged.
 #[derive(Clone, Copy, PartialEq, Eq, Debug, Error)]
 pub enum StepError {
     /// The request is refused.
     #[error("{0}")]
     Refused(Refusal),
-    /// A new file may not get the ID handed in.
+    /// A new file may not have the ID in `new`.
     #[error("NotNew")]
     NotNew,
-    /// A growth was refused, or a count has no room in its answer.
+    /// The allocator refused memory, or a count does not fit into its answer.
     #[error("NoMemory")]
     NoMemory,
 }
@@ -94,7 +94,7 @@ impl Catalogue {
         }
     }
 
-    /// Makes a step: answers a request, or says why not. A file that it makes gets the ID handed in.
+    /// Makes a step: returns the answer to a request, or why there is none. A file that it creates receives the ID in `new`.
     pub fn step(&mut self, who: Uic, request: &Request, new: FileId) -> Result<Answer, StepError>
         ensures ok { IfOk result (λ a. step_of self.old who request.now a ≡ Some self.new) }
         ensures err { OnErr result (self.new ≡ self.old) }

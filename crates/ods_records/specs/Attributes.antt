@@ -1,4 +1,4 @@
--- The 32 bytes of attributes of a file (the standard's FCS file attributes): how its records are written, and where it ends.
+-- The 32 bytes of attributes of a file (the standard's FCS file attributes): the kind of its records, and its end.
 use Rattle.std.specs.Prelude.{ℕ, ◌<◌, ◌+◌, ◌-◌, ◌*◌, ◌/◌, ◌%◌, List, [], ◌∷◌, ◌++◌, take, drop, replicate, slice_index, Option, Some, None, Bool, not, ◌&&◌, nat_le, ◌==◌, if◌then◌else◌}
 use Rattle.ods_records.specs.declared.kind.RecordKind.{RecordKind}
 use Rattle.ods_records.specs.declared.kind.RecordKind.TheVariants.{Variable, Sequenced}
@@ -14,7 +14,8 @@ word w = w % 256 ∷ w / 256 ∷ []
 abbrev pub block : ℕ → List ℕ
 block n = word (n / 65536) ++ word (n % 65536)
 
--- F.RTYP, F.RATT and F.RSIZ as they are given; F.HIBK, how many blocks the length takes; F.EFBK and F.FFBY, the block and the byte in it where the file ends; zeros
+-- F.RTYP, F.RATT and F.RSIZ as given; F.HIBK, the number of blocks for the length; F.EFBK and F.FFBY, the block and the byte in it at the end of
+-- file; zeros
 abbrev pub attributes : ℕ → ℕ → ℕ → ℕ → List ℕ
 attributes rtyp ratt rsiz length =
     rtyp ∷ ratt ∷ (word rsiz ++ (block ((length + 511) / 512) ++ (block (length / 512 + 1) ++ (word (length % 512) ++ replicate 18 0))))
@@ -23,27 +24,27 @@ attributes rtyp ratt rsiz length =
 abbrev pub end_block : List ℕ → ℕ
 end_block bytes = 65536 * word_at bytes 8 + word_at bytes 10
 
--- The end of file in bytes: byte F.FFBY of block F.EFBK, of which the first is 1; 0 where F.EFBK is 0.
+-- The end of file in bytes: byte F.FFBY of block F.EFBK, counted from 1, or 0 if F.EFBK is 0.
 abbrev pub end_of : List ℕ → ℕ
 end_of bytes = if end_block bytes == 0 then 0 else (end_block bytes - 1) * 512 + word_at bytes 12
 
--- F.RTYP, the low four bits of byte 0; 0 and those above 6 are read as 1
+-- F.RTYP, the low four bits of byte 0; 0 and the values above 6 are read as 1
 abbrev pub record_type : List ℕ → ℕ
 record_type bytes = if slice_index bytes 0 % 16 == 0 then 1 else if nat_le 7 (slice_index bytes 0 % 16) then 1 else slice_index bytes 0 % 16
 
--- F.RATT says that records are lines: FORTRAN carriage control (1), an implied carriage return (2) or print control (4)
+-- records are lines by F.RATT: FORTRAN carriage control (1), an implied carriage return (2) or print control (4)
 abbrev pub is_controlled : List ℕ → Bool
 is_controlled bytes = not (slice_index bytes 1 % 8 == 0)
 
--- F.RATT says that no record goes on in the next block (10 octal)
+-- no record crosses the end of a block, by F.RATT (10 octal)
 abbrev pub is_blocked : List ℕ → Bool
 is_blocked bytes = slice_index bytes 1 / 8 % 2 == 1
 
--- how many bytes the header of a sequenced record has: byte 15, and 2 where that is 0
+-- the size of the header of a sequenced record in bytes: byte 15, or 2 if that is 0
 abbrev pub header_size : List ℕ → ℕ
 header_size bytes = if slice_index bytes 15 == 0 then 2 else slice_index bytes 15
 
--- How the records are written: 2 and 3 are records with a length. 1, records of one size, has none, and the others are streams.
+-- The kind of the records: 2 and 3 are records with a length. 1, records of one size, has none, and the others are streams.
 abbrev pub kind_in : List ℕ → Option RecordKind
 kind_in bytes = if record_type bytes == 2 then Some Variable else if record_type bytes == 3 then Some (Sequenced (header_size bytes)) else None
 
@@ -51,7 +52,7 @@ kind_in bytes = if record_type bytes == 2 then Some Variable else if record_type
 abbrev pub has_cards : List ℕ → Bool
 has_cards bytes = (record_type bytes == 1) && is_controlled bytes && not (word_at bytes 2 == 0)
 
--- how the bytes up to the end are read as a text
+-- the way to read the bytes up to the end as a text
 abbrev pub text_form_in : List ℕ → TextForm
 text_form_in bytes =
     if record_type bytes == 2 then Records Variable
@@ -60,7 +61,7 @@ text_form_in bytes =
     else if has_cards bytes then (if is_blocked bytes then Blocked (word_at bytes 2) else Fixed (word_at bytes 2))
     else Bytes
 
--- records of one size have one byte at least
+-- records of one size have at least one byte
 abbrev pub IsSized : TextForm → Type 0
 IsSized (Fixed size) = 0 < size
 IsSized (Blocked size) = 0 < size
@@ -68,6 +69,6 @@ IsSized (Records kind) = Unit {0}
 IsSized Stream = Unit {0}
 IsSized Bytes = Unit {0}
 
--- the attributes with F.HIBK, F.EFBK and F.FFBY of a file of so many bytes, and all else as it is
+-- the attributes with F.HIBK, F.EFBK and F.FFBY of a file of this many bytes, and all else unchanged
 abbrev pub ending_at : List ℕ → ℕ → List ℕ
 ending_at own bytes = take 4 own ++ take 10 (drop 4 (attributes 1 0 512 bytes)) ++ drop 14 own

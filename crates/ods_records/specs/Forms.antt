@@ -44,6 +44,6 @@ IsControl text control = control_said text ≡ Some control
 abbrev pub IsSize : List ℕ → ℕ → Type 0
 IsSize text size = (size ≤ 32767) × (text ≡ decimal size)
 
--- KIND,CONTROL,SIZE says these first four bytes of the attributes
+-- KIND,CONTROL,SIZE gives these first four bytes of the attributes
 abbrev pub IsForm : List ℕ → List ℕ → Type 0
 IsForm text form = (parts : ℕ × (ℕ × ℕ)) × IsPair 44 IsKind (IsPair 44 IsControl IsSize) text parts × (form ≡ parts.0 ∷ parts.1.0 ∷ word parts.1.1)

@@ -1,20 +1,21 @@
--- A text file as RSX keeps it (the standard's FCS record structure): records, one behind another. Places are counted in bytes from 0.
+-- A text file as RSX stores it (the standard's FCS record structure): consecutive records. Offsets are counted in bytes from 0.
 use Rattle.std.specs.Prelude.{◌≡◌, ℕ, ◌+◌, ◌*◌, ◌/◌, ◌%◌, ◌≤◌, min, List, [], ◌∷◌, ◌++◌, length, slice_index, slice_range, Option, Some, None}
 use Rattle.std.specs.List.{flat_map}
 use Rattle.std.specs.Option.{option_to_list}
 use Rattle.ods_records.specs.declared.kind.RecordKind.{RecordKind}
 use Rattle.ods_records.specs.declared.kind.RecordKind.TheVariants.{Variable, Sequenced}
 
--- the word at a place, low byte first
+-- the word at an offset, low byte first
 abbrev pub word_at : List ℕ → ℕ → ℕ
 word_at bytes at = slice_index bytes at + 256 * slice_index bytes (at + 1)
 
--- how many bytes of a record are its header, in which its number stands; a byte says it
+-- the size of the header of a record in bytes, which contains its number; the size is stored in a byte
 abbrev pub number_size : RecordKind → ℕ
 number_size Variable = 0
 number_size (Sequenced size) = min size 255
 
--- A record: a word with its length, at most 32,767, and that many bytes; what it says are those behind its number. Where the length is odd, one byte more comes before the next record, and the last may lack it.
+-- A record: a word with its length, at most 32,767, and that many bytes; its contents are the bytes after its number. If the length is odd, a padding
+-- byte comes before the next record, and the last record may lack it.
 pub record IsRecord (kind : RecordKind) (bytes : List ℕ) (at : ℕ) (record_bytes : List ℕ) (next : ℕ) : Type 0 where
   pub numbered : number_size kind ≤ word_at bytes at
   pub short : word_at bytes at ≤ 32767
@@ -22,18 +23,18 @@ pub record IsRecord (kind : RecordKind) (bytes : List ℕ) (at : ℕ) (record_by
   pub says : record_bytes ≡ slice_range bytes (at + 2 + number_size kind) (at + 2 + word_at bytes at)
   pub behind : next ≡ min (at + 2 + word_at bytes at + word_at bytes at % 2) (length bytes)
 
--- A length of 65,535: the rest of this block of 512 bytes is not used.
+-- A length of 65,535: the rest of this block of 512 bytes is unused.
 pub record IsUnused (bytes : List ℕ) (at next : ℕ) : Type 0 where
   pub mark : word_at bytes at ≡ 65535
   pub within : at + 2 ≤ length bytes
   pub behind : next ≡ min (512 * (at / 512 + 1)) (length bytes)
 
--- What stands at a place: a record, or none in the rest of the block. Behind it comes the place `next`.
+-- The content of an offset: a record, or no record in the rest of the block. `next` is the offset after it.
 abbrev pub Stands : RecordKind → List ℕ → ℕ → Option (List ℕ) → ℕ → Type 0
 Stands kind bytes at (Some record_bytes) next = IsRecord kind bytes at record_bytes next
 Stands kind bytes at None next = IsUnused bytes at next
 
--- from one place up to another these stand, one behind another
+-- these are consecutive from one offset up to another
 abbrev pub Leads : RecordKind → List ℕ → ℕ → List (Option (List ℕ)) → ℕ → Type 0
 Leads kind bytes at [] to = at ≡ to
 Leads kind bytes at (x ∷ xs) to = (next : ℕ) × Stands kind bytes at x next × Leads kind bytes next xs to
@@ -44,6 +45,6 @@ pub record Spells (kind : RecordKind) (bytes : List ℕ) (records : List (List �
   pub whole : Leads kind bytes 0 standing (length bytes)
   pub each : records ≡ flat_map option_to_list standing
 
--- each record, and LF behind it
+-- each record, followed by LF
 abbrev pub text_of : List (List ℕ) → List ℕ
 text_of records = flat_map (λ r. r ++ 10 ∷ []) records

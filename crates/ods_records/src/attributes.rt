@@ -1,4 +1,4 @@
-//! The attributes of a file: how its records are written, and where it ends.
+//! The attributes of a file: the kind of its records, and its end.
 ghost use Rattle.std.specs.Prelude.{◌≡◌, ◌*◌, ◌<◌, ◌^◌, if◌then◌else◌};
 ghost use Rattle.ods_records.specs.Attributes.{attributes, end_of, kind_in, text_form_in, record_type as record_type_in, header_size as header_size_in, is_controlled as controlled, is_blocked as blocked, has_cards as cards, IsSized, ending_at as attributes_ending, word as word_of, block as block_of};
 ghost use Rattle.ods_records.specs.declared.kind.TextForm.{TextForm};
@@ -6,8 +6,8 @@ ghost use Rattle.ods_records.specs.Records.{word_at};
 
 use crate::{RecordKind, TextForm};
 
-/// The attributes (the standard's FCS file attributes) of a file of `length` bytes that holds variable records, each a line of text (F.RATT 2,
-/// carriage return is implied); `longest` is how many bytes the longest has.
+/// Returns the attributes (the standard's FCS file attributes) of a file of `length` bytes with variable records. Each record is a line of text
+/// (F.RATT 2, carriage return is implied). `longest` is the size of the longest record in bytes.
 pub fn text_attributes(longest: u16, length: u64) -> [u8; 32]
     requires { length < 512 * 2 ^ 20 }
     ensures value { result ≡ attributes 2 2 longest length }
@@ -16,7 +16,7 @@ pub fn text_attributes(longest: u16, length: u64) -> [u8; 32]
     attributes_of(2, 2, longest, length)
 }
 
-/// The attributes of a file of `length` bytes in records of 512 bytes.
+/// Returns the attributes of a file of `length` bytes in records of 512 bytes.
 pub fn binary_attributes(length: u64) -> [u8; 32]
     requires { length < 512 * 2 ^ 20 }
     ensures value { result ≡ attributes 1 0 512 length }
@@ -25,8 +25,8 @@ pub fn binary_attributes(length: u64) -> [u8; 32]
     attributes_of(1, 0, 512, length)
 }
 
-/// How the records of a file with these attributes are written, by F.RTYP; `None` where it has none with a length: 1, with 0 and what is above
-/// 6, which are read as 1, and the streams 4 to 6.
+/// Returns the kind of the records of a file with these attributes, by F.RTYP. It returns `None` if the records have no length. These are F.RTYP 1,
+/// the values 0 and above 6, which are read as 1, and the streams 4 to 6.
 pub fn kind_of(attributes: &[u8; 32]) -> Option<RecordKind>
     ensures { result ≡ kind_in attributes.now }
 {
@@ -37,7 +37,7 @@ pub fn kind_of(attributes: &[u8; 32]) -> Option<RecordKind>
     }
 }
 
-/// How the bytes of a file with these attributes are read as a text.
+/// Returns how the bytes of a file with these attributes are read as a text.
 pub fn text_form(attributes: &[u8; 32]) -> TextForm
     ensures value { result ≡ text_form_in attributes.now }
     ensures sized { IsSized result }
@@ -91,7 +91,7 @@ fn header_size(attributes: &[u8; 32]) -> u8
     }
 }
 
-/// Whether F.RATT says that records are lines: FORTRAN carriage control, an implied carriage return, or print control.
+/// Returns whether the records are lines by F.RATT: FORTRAN carriage control, an implied carriage return, or print control.
 pub fn is_controlled(attributes: &[u8; 32]) -> bool
     ensures { result ≡ controlled attributes.now }
 {
@@ -105,14 +105,14 @@ fn is_blocked(attributes: &[u8; 32]) -> bool
     attributes[1] / 8 % 2 == 1
 }
 
-/// The record size in bytes, F.RSIZ.
+/// Returns the record size in bytes, F.RSIZ.
 pub fn record_size(attributes: &[u8; 32]) -> u16
     ensures { result ≡ word_at attributes.now 2 }
 {
     word(attributes, 2) as u16
 }
 
-/// These attributes for a file of so many bytes: F.HIBK, F.EFBK and F.FFBY are its own, all else is as it is.
+/// Returns these attributes for a file of `length` bytes: F.HIBK, F.EFBK and F.FFBY are set, all else is unchanged.
 pub fn ending_at(attributes: &[u8; 32], length: u64) -> [u8; 32]
     requires { length < 512 * 2 ^ 20 }
     ensures value { result ≡ attributes_ending attributes.now length }
@@ -123,7 +123,7 @@ pub fn ending_at(attributes: &[u8; 32], length: u64) -> [u8; 32]
     new
 }
 
-/// The end of file, in bytes: `(F.EFBK - 1) * 512 + F.FFBY`, and 0 where F.EFBK is 0. It is what the attributes say, and may lie past the
+/// Returns the end of file, in bytes: `(F.EFBK - 1) * 512 + F.FFBY`, or 0 if F.EFBK is 0. It depends only on the attributes, and may be past the
 /// blocks of the file.
 pub fn end_of_file(attributes: &[u8; 32]) -> u64
     ensures { result ≡ end_of attributes.now }
@@ -160,7 +160,7 @@ fn attributes_of(rtyp: u8, ratt: u8, rsiz: u16, length: u64) -> [u8; 32]
     ]
 }
 
-/// The bytes of a word, the low one first.
+/// Returns the bytes of a word, the low byte first.
 pub(crate) fn word_bytes(word: u64) -> [u8; 2]
     requires { word < 2 ^ 16 }
     ensures { result ≡ word_of word }

@@ -11,8 +11,8 @@ use std::fmt;
 /// The greatest F.RSIZ.
 const MOST: u16 = 32_767;
 
-/// The first four bytes of the attributes of a file whose form is said as `KIND,CONTROL,SIZE`: undefined, fixed, variable, sequenced or stream;
-/// none, ftn, cr or print, each perhaps with `+blk` behind; F.RSIZ, at most 32,767. `None` where the text says none.
+/// Parses a form `KIND,CONTROL,SIZE` into the first four bytes of the attributes of a file. KIND is undefined, fixed, variable, sequenced or stream.
+/// CONTROL is none, ftn, cr or print, each optionally followed by `+blk`. SIZE is F.RSIZ, at most 32,767. Any other text gives `None`.
 pub fn parse_form(text: &[u8]) -> Option<[u8; 4]>
     ensures { IsTheOne (IsForm text.now) result }
 {
@@ -116,14 +116,13 @@ fn read_size(digits: &[u8]) -> Option<u16>
     Some(size)
 }
 
-/// The form of a file, as `parse_form` reads it, where it is one that it reads.
+/// The form of a file in words, as [`parse_form`] reads it, if it reads this form.
 #[derive(Clone, Copy)]
 pub struct FormWords {
     form: [u8; 4],
 }
 
-/// The form that the first four bytes of attributes say, in words.
-/// No clause says which words it prints.
+/// Returns the form of the first four bytes of attributes, in words. No clause states the printed words.
 pub fn print_form(form: &[u8; 4]) -> FormWords {
     FormWords { form: *form }
 }

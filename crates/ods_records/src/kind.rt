@@ -1,34 +1,34 @@
-//! How the records of a file are written, how a file is read as a text, and in which form its bytes are wanted.
+//! The kinds of records of a file, the ways to read a file as a text, and the forms of its bytes.
 
-/// How the records of a file are written, by F.RTYP of its attributes (the standard's FCS record structure). Records of one size
-/// (F.RTYP 1) are none of these: such a file is its bytes.
+/// The kind of the records of a file, by F.RTYP of its attributes (the standard's FCS record structure). It excludes records of one size (F.RTYP 1):
+/// such a file is its bytes.
 #[derive(Clone, Copy, Debug, PartialEq, Eq)]
 pub enum RecordKind {
     /// F.RTYP 2: a word with the length in bytes, and that many bytes.
     Variable,
-    /// F.RTYP 3: the same, and so many first of these bytes are the record's header, in which its number stands.
+    /// F.RTYP 3: the same, and the first bytes of the record are its header, which contains its number. The value is the size of the header in bytes.
     Sequenced(u8),
 }
 
-/// How the bytes of a file are read as a text, by its attributes.
+/// The way to read the bytes of a file as a text, by its attributes.
 #[derive(Clone, Copy, Debug, PartialEq, Eq)]
 pub enum TextForm {
     /// Each record is a line.
     Records(RecordKind),
-    /// Each so many bytes are a line.
+    /// Lines of this many bytes.
     Fixed(u16),
-    /// The same, and a line that would go on in the next block of 512 bytes begins there.
+    /// The same, and a line that would cross the end of a block of 512 bytes begins in the next block.
     Blocked(u16),
     /// The bytes, with CR LF as LF.
     Stream,
-    /// The bytes as they are.
+    /// The bytes, unchanged.
     Bytes,
 }
 
-/// The form in which the bytes of a file are wanted.
+/// The form in which the bytes of a file are requested.
 #[derive(Clone, Copy, Debug, PartialEq, Eq)]
 pub enum Wanted {
-    /// Lines where the file is of records that come back from them, or a stream of lines; else bytes.
+    /// Lines if the file has records that come back from lines, or is a stream of lines. Otherwise bytes.
     ByKind,
     /// A text, by the attributes: the lines of records, a stream with CR LF as LF, or the bytes.
     Text,

@@ -1,4 +1,4 @@
-//! Text files of RSX-11: a text as records, the attributes of such a file, and the text back. It knows no volume.
+//! Text files of RSX-11: a text as records, the attributes of such a file, and the text back. The crate has no volume.
 #![tactic(auto)]
 
 mod attributes;

@@ -1,4 +1,4 @@
-//! Texts that would come back from records unchanged but for one thing, and which thing that is.
+//! Texts that records would keep unchanged except for one defect, and that defect.
 ghost use Rattle.std.specs.Prelude.{◌≡◌, ◌↔◌, ◌⊎◌, ◌==◌, ◌<◌, ℕ, length, slice_index, take, IsTrue, IfSome, IfNone, MatchOption};
 ghost use Rattle.std.specs.List.{count_by};
 ghost use Rattle.ods_records.specs.declared.near.NearText.{NearText as Near};
@@ -9,26 +9,26 @@ use crate::sized::is_cr_lf;
 use crate::texts::{ends_with_lf, has_short_lines, may_stand};
 use thiserror::Error;
 
-/// What the one thing is that keeps bytes from being put as a text. A line is counted from 1.
+/// The only defect that prevents bytes from being put as a text. A line is counted from 1.
 #[derive(Clone, Copy, Debug, PartialEq, Eq, Error)]
 pub enum NearText {
-    /// No LF ends the last line.
+    /// The last line does not end with LF.
     #[error("the last line has no LF")]
     NoLastLf,
-    /// The first such line.
+    /// The number of the first line that ends with CR LF.
     #[error("line {0} ends with CR LF")]
     CrLf(usize),
     /// A line has more than 32,767 bytes.
     #[error("a line has more than 32767 bytes")]
     LongLine,
-    /// The first such line, and the byte.
+    /// The number of the first line with such a byte, and the byte.
     #[error("line {0} has the byte {1}")]
     OddByte(usize, u8),
 }
 
-/// What these bytes lack to be a text that comes back from records as it was, where it is one thing alone: the last line has no LF, a line
-/// ends with CR LF, a line has more than 32,767 bytes, or a byte is none of 7 to 13, 27 and 32 to 126. `None` where they lack nothing, and where
-/// they lack more.
+/// Returns the defect of these bytes, if they have exactly one defect as a text that records keep unchanged. The defects are: the last line has no
+/// LF, a line ends with CR LF, a line has more than 32,767 bytes, or a byte is not 7 to 13, 27 or 32 to 126. It returns `None` for no defect, and for
+/// more than one.
 pub fn why_no_text(text: &[u8]) -> Option<NearText>
     ensures some { IfSome result (IsNear text.now) }
     ensures none { IfNone result ((near : Near) → ¬ IsNear text.now near) }

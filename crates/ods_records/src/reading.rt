@@ -5,14 +5,14 @@ ghost use Rattle.ods_records.specs.{declared.faults.RecordFault.TheVariants.NoMe
 use crate::{RecordFault, RecordKind};
 use std::alloc::Global;
 
-/// How many bytes the longest record has.
+/// The size of the longest valid record, in bytes.
 pub(crate) const LONGEST: usize = 32_767;
 
 /// The length that says that the rest of the block is not used.
 const UNUSED: usize = 65_535;
 
-/// The text of a file of records (the standard's FCS record structure): each record, and LF behind it. `bytes` are those of the file up to
-/// its end; what stands in a record stays as it is, an LF or a CR too. Refused with the first fault, or for want of memory.
+/// Returns the text of a file of records (the standard's FCS record structure): each record, followed by LF. `bytes` are the bytes of the file up to
+/// its end. The bytes of a record are unchanged, also an LF or a CR. The error is the first fault, or NoMemory.
 pub fn records_to_text(
     alloc: Global,
     kind: RecordKind,
@@ -38,7 +38,7 @@ pub fn records_to_text(
     Ok(text)
 }
 
-/// What stands at a place, a record or no more of this block, and the place behind it.
+/// Reads a record, or the mark that the rest of the block is unused, at an offset. Returns it with the offset after it.
 pub(crate) fn step(
     kind: RecordKind,
     bytes: &[u8],

@@ -4,8 +4,8 @@ ghost use Rattle.ods_records.specs.{Records.text_of, Sized.next_line as line_beh
 
 use std::alloc::{AllocError, Global};
 
-/// The text of a file of records of one size: each, and LF behind it; a last short one is a line too. Where `blocked`, one that would go on in
-/// the next block begins there.
+/// Returns the text of a file with records of one size: each record, followed by LF. A short last record is a line too. If `blocked`, a record that
+/// would cross the end of a block begins in the next block. It fails only when out of memory.
 pub fn fixed_to_text(
     alloc: Global,
     size: u16,
@@ -48,7 +48,7 @@ fn next_line(blocked: bool, size: u16, at: usize) -> usize
     at + size
 }
 
-/// The text of a stream: the bytes, with CR LF as LF.
+/// Returns the text of a stream: the bytes, with CR LF as LF. It fails only when out of memory.
 pub fn stream_to_text(alloc: Global, bytes: &[u8]) -> Result<Vec<u8>, AllocError>
     ensures { IfOk result (λ text. text.items ≡ without_cr bytes.now) }
 {
@@ -61,7 +61,7 @@ pub fn stream_to_text(alloc: Global, bytes: &[u8]) -> Result<Vec<u8>, AllocError
     Ok(text)
 }
 
-/// Whether CR LF stands at a place.
+/// Returns whether CR LF is at an offset.
 pub(crate) fn is_cr_lf(bytes: &[u8], at: usize) -> bool
     requires { at < length bytes.now }
     ensures { result ≡ ((slice_index bytes.now at == 13) && (slice_index bytes.now (at + 1) == 10)) }

@@ -1,4 +1,4 @@
-//! What all records of a file have in common. It takes no memory.
+//! The common properties of all records of a file. The survey takes no memory.
 ghost use Rattle.std.specs.Prelude.{◌≡◌, ◌&&◌, ◌||◌, ◌==◌, not, ℕ, List, Ok, length, max, IfOk, IfErr};
 ghost use Rattle.std.specs.List.{list_all};
 ghost use Rattle.ods_records.specs.{Attributes.is_controlled as controlled, Records.Spells, Faults.IsFirstFault, Survey.survey_of, Survey.is_line as line_is, Survey.is_printable as printable_is, Survey.ends_with_cr as cr_ends};
@@ -8,14 +8,14 @@ use crate::reading::step;
 use crate::texts::is_text;
 use crate::{RecordFault, RecordKind};
 
-/// What all records of a file have in common.
+/// The common properties of all records of a file.
 #[derive(Clone, Copy, Debug, PartialEq, Eq)]
 pub struct Survey {
-    /// How many bytes the longest has, its header not counted; 0 where there is none.
+    /// The size of the longest record in bytes, without its header, or 0 without records.
     pub longest: usize,
-    /// Each is a line of its own again in a text: none has an LF, or a CR at its end.
+    /// Whether each record is one line in a text: it has no LF, and no CR at its end.
     pub lines: bool,
-    /// Each byte may stand in a text.
+    /// Whether each byte is valid in a text.
     pub printable: bool,
 }
 
@@ -33,8 +33,8 @@ impl Survey {
         }
     }
 
-    /// Whether the records of a file with these attributes are got as lines without a word: each is a line again, and they have carriage
-    /// control or can be printed.
+    /// Returns whether the records of a file with these attributes are extracted as lines without an option: each is a line again, and they have
+    /// carriage control or can be printed.
     pub fn come_as_lines(&self, attributes: &[u8; 32]) -> bool
         ensures { result ≡ (self.now.lines && (controlled attributes.now || self.now.printable)) }
     {
@@ -63,7 +63,7 @@ fn ends_with_cr(one: &[u8]) -> bool
     !one.is_empty() && one[one.len() - 1] == b'\r'
 }
 
-/// What the records of a file have in common. Refused with the first fault.
+/// Returns the common properties of the records of a file, or the first fault.
 pub fn survey_records(kind: RecordKind, bytes: &[u8]) -> Result<Survey, RecordFault>
     ensures ok { IfOk result (λ survey. (records : List (List ℕ)) × Spells kind bytes.now records × (survey ≡ survey_of records)) }
     // What the bytes spell is surveyed.

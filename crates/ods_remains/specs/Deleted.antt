@@ -1,4 +1,4 @@
--- Deleted files: headers that their index bits leave free, which deletion left as they were but for the number and the sum.
+-- Deleted files: headers whose index bits are free. A deletion left them unchanged except for the number and the checksum.
 use Rattle.std.specs.Prelude.{◌≡◌, ℕ, ◌-◌, ◌^◌, ◌≤◌, ◌⊎◌, min, Bool, false, not, List, ◌∷◌, length}
 use Rattle.std.specs.List.{Contains, filter}
 use Rattle.std.specs.List.Sorted.{IsStrictlyIncreasing}
@@ -11,25 +11,25 @@ use Rattle.ods_remains.specs.Candidates.{Leads}
 use Rattle.ods_remains.specs.Chains.{GoesAlong, named_at}
 use Rattle.ods_remains.specs.declared.former.DeletedFile.{DeletedFile}
 
--- a header block as it stood before it was deleted: with its number, and with its sum
+-- a header block as before its deletion: with its number and its checksum
 abbrev pub restored : List ℕ → ℕ → List ℕ
 restored b n = with_sum (with_word b 1 n)
 
--- the sum of b is 0, or right, or was right with the number n
+-- the checksum of b is 0, or is correct, or was correct with the number n
 abbrev pub HasOldSum : List ℕ → ℕ → Type 0
 HasOldSum b n = (word b 255 ≡ 0) ⊎ (word b 255 ≡ sum_of b 255) ⊎ (word b 255 ≡ sum_of (with_word b 1 n) 255)
 
--- A deletion may leave b of header n: its number is n or 0, its sum is an old one, and with both as they were it is a valid header.
+-- A deletion may leave b of header n: its number is n or 0, its checksum is an old one, and with both restored it is a valid header.
 pub record IsLeftOf (b : List ℕ) (n : ℕ) : Type 0 where
   pub numbered : (number_of b ≡ 0) ⊎ (number_of b ≡ n)
   pub checksum : HasOldSum b n
   pub valid : IsValidHeader (restored b n) n
 
--- header n as it stood before it was deleted
+-- header n as before its deletion
 abbrev pub former : List (List ℕ) → VolumeLayout → ℕ → List ℕ
 former I L n = restored (header_at I L n) n
 
--- n is above the reserved files and within the greatest number, its index bit is clear, and a deletion left its header
+-- n is above the reserved files and at most the greatest number, its index bit is clear, and a deletion left its header
 pub record IsDeleted (I : List (List ℕ)) (L : VolumeLayout) (n : ℕ) : Type 0 where
   pub low : 6 ≤ n
   pub high : n ≤ last_number L
@@ -58,14 +58,14 @@ pub record IsFormerChain (I : List (List ℕ)) (L : VolumeLayout) (n : ℕ) (num
   pub chain : GoesAlong (former I L) (LeadsOn I L) (LeadsOn I L) n others cut
   pub blocks : named ≡ named_at (former I L) numbers
 
--- the same as it is handed out
+-- the same for the returned value
 abbrev pub IsFormerFile : List (List ℕ) → VolumeLayout → ℕ → DeletedFile → Type 0
 IsFormerFile I L n file = IsFormerChain I L n file.headers.items file.blocks.items file.is_cut
 
--- as far as 32 bits count
+-- at most 2^32 - 1
 abbrev pub counted : ℕ → ℕ
 counted n = min n (2 ^ 32 - 1)
 
--- how many of these blocks are used again: the image lacks them, or they are not free
+-- the number of these blocks that are used again: the image lacks them, or they are not free
 abbrev pub used_again : List (List ℕ) → VolumeLayout → List ℕ → ℕ
 used_again I L blocks = length (filter (λ lbn. not (is_free_block I L lbn)) blocks)

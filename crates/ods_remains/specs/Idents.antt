@@ -1,4 +1,4 @@
--- The name in the ident area of a header, which stays when a directory loses its entry.
+-- The name in the ident area of a header. It remains when a directory loses the entry.
 use Rattle.std.specs.Prelude.{List, [], ◌∷◌, ℕ}
 use Rattle.ods_base.specs.Block.{word}
 use Rattle.ods_base.specs.Name.{RadName}

@@ -1,11 +1,11 @@
-//! Blocks that are valid headers, wherever they stand.
+//! Blocks that are valid headers, at any LBN.
 ghost use Rattle.std.specs.Prelude.{◌↔◌, IsTrue};
 ghost use Rattle.ods_remains.specs.Candidates.{IsCandidate};
 
 use ods_base::Block;
 use ods_header::{file_number, is_valid_header};
 
-/// Whether a block is a valid header of the number that it says, and that is not 0.
+/// Returns whether a block is a valid header of the number in it, and this number is not 0.
 pub fn is_candidate(block: &Block) -> bool
     ensures { IsTrue result ↔ IsCandidate block.now }
 {

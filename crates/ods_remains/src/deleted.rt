@@ -1,4 +1,4 @@
-//! Headers that a deletion left, as they stood before.
+//! Headers that a deletion left, restored to their state before it.
 ghost use Rattle.std.specs.Prelude.{◌≡◌, ◌↔◌, ◌<◌, ◌≤◌, ℕ, IsTrue, IfSome, MatchOption};
 ghost use Rattle.ods_header.specs.Header.{map_word, segment_of};
 ghost use Rattle.ods_remains.specs.Candidates.{IsNamedBy};
@@ -42,7 +42,7 @@ fn is_left(block: &Block, number: u16) -> bool
         && is_valid_header(&restored(block, number), number)
 }
 
-/// The block of a deleted header as it stood before. There is none where the number is in use, or no header is left.
+/// Returns the block of a deleted header, restored to its state before the deletion. Returns `None` if the number is in use, or no header is left.
 pub fn deleted_header(disk: &Disk<'_>, number: u16) -> Option<Block>
     ensures { MatchOption result (¬ on IsDeleted disk.now number) (λ b. on IsDeleted disk.now number × (b ≡ seen former_of disk.now number)) }
 {
@@ -68,7 +68,7 @@ fn names(header: &Block, other: &Block) -> bool
         && segment(other) as u16 == segment(header) as u16 + 1
 }
 
-/// The number of the deleted header that the deleted header of this number names as its next one.
+/// Returns the number of the deleted header that the deleted header of this number names as its next one.
 pub(crate) fn next_deleted(disk: &Disk<'_>, number: u16) -> Option<u16>
     ensures next { MatchOption result ((c : ℕ) → ¬ on LeadsOn disk.now number c) (on LeadsOn disk.now number) }
     ensures small { IfSome result (λ c. segment_of (seen former_of disk.now c) < 256) }

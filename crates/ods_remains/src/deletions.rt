@@ -1,4 +1,4 @@
-//! Deleted files whose headers are still there, and the blocks that these name.
+//! Deleted files whose headers are still present, and the blocks that these headers name.
 ghost use Rattle.std.specs.Prelude.{◌≡◌, ◌⊎◌, ◌==◌, [], ◌∷◌, ◌++◌, not, IfOk, OnOk, MatchBool, MatchOption};
 ghost use Rattle.ods_header.specs.Header.{blocks_of, next_number_of};
 ghost use Rattle.ods_remains.specs.Deleted.{IsDeleted, IsDeletedFile, AreDeletedFiles, IsFormerFile, former, used_again as used_again_of};
@@ -10,7 +10,7 @@ use ods_header::{next_number, segment};
 use ods_space::{Disk, is_free, last_number, push_header};
 use std::alloc::{AllocError, Global};
 
-/// Whether a number is a deleted file.
+/// Returns whether a number belongs to a deleted file.
 pub fn is_deleted_file(disk: &Disk<'_>, number: u16) -> bool
     ensures { MatchBool result (on IsDeletedFile disk.now number) (¬ on IsDeletedFile disk.now number) }
 {
@@ -31,7 +31,7 @@ fn push_deleted(numbers: &mut Vec<u16>, disk: &Disk<'_>, number: u16) -> Result<
     Ok(())
 }
 
-/// The numbers of all deleted files, ascending.
+/// Returns the numbers of all deleted files, in ascending order.
 pub fn deleted_files(alloc: Global, disk: &Disk<'_>) -> Result<Vec<u16>, AllocError>
     ensures { IfOk result (λ numbers. on AreDeletedFiles disk.now numbers.items) }
 {
@@ -42,7 +42,8 @@ pub fn deleted_files(alloc: Global, disk: &Disk<'_>) -> Result<Vec<u16>, AllocEr
     Ok(numbers)
 }
 
-/// A deleted file: its headers, the blocks that they name, and whether one is missing. There is none where the number is no deleted file.
+/// Returns a deleted file: its headers, the blocks that they name, and whether a header is missing. Returns `None` if the number is not the number
+/// of a deleted file.
 pub fn deleted_file(
     alloc: Global,
     disk: &Disk<'_>,
@@ -77,7 +78,7 @@ fn follow(alloc: Global, disk: &Disk<'_>, first: u16) -> Result<DeletedFile, All
     Ok(file)
 }
 
-/// Puts this deleted header behind the headers of a file, and the blocks that it names behind the file's.
+/// Appends this deleted header to the headers of a file, and the blocks that it names to the blocks of the file.
 pub(crate) fn note(disk: &Disk<'_>, file: &mut DeletedFile, number: u16) -> Result<(), AllocError>
     requires { on IsDeleted disk.now number }
     ensures headers { OnOk result (file.new.headers.items ≡ file.old.headers.items ++ number ∷ []) }
@@ -93,7 +94,7 @@ pub(crate) fn note(disk: &Disk<'_>, file: &mut DeletedFile, number: u16) -> Resu
     Ok(())
 }
 
-/// How many of these blocks are used again: the image lacks them, or they are not free.
+/// Counts the blocks that are used again: the image lacks them, or they are not free.
 pub(crate) fn used_again(disk: &Disk<'_>, blocks: &[u32]) -> usize
     ensures { result ≡ seen used_again_of disk.now blocks.now }
 {

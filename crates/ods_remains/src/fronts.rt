@@ -1,4 +1,5 @@
-//! The fronts of deleted files: their headers up to the first that a file before came to. So each header is met once, however many files share it.
+//! The fronts of deleted files: their headers up to the first header that an earlier file reached. So each header is visited once, even if many
+//! files share it.
 ghost use Rattle.std.specs.Prelude.{◌≡◌, ◌<◌, ◌≤◌, ◌⊎◌, ℕ, true, length, IfOk, IfSome, MatchOption};
 ghost use Rattle.std.specs.List.{Contains};
 ghost use Rattle.ods_header.specs.Header.{blocks_of, segment_of};
@@ -38,7 +39,7 @@ fn next_unseen(disk: &Disk<'_>, number: u16, seen: &[bool]) -> Option<u16>
     Some(next)
 }
 
-/// The front of this deleted file, up to the first header that was seen.
+/// Returns the front of this deleted file: its headers up to the first seen one.
 pub(crate) fn follow_front(
     alloc: Global,
     disk: &Disk<'_>,
@@ -65,7 +66,7 @@ pub(crate) fn follow_front(
     Ok(file)
 }
 
-/// Marks these headers as seen. Numbers that have no flag are passed over.
+/// Marks these headers as seen. Ignores numbers that have no flag.
 pub(crate) fn mark_all(seen: &mut [bool], headers: &[u16])
     ensures { AreMarked headers.now seen.old seen.new }
 {
@@ -87,7 +88,7 @@ fn mark(seen: &mut [bool], number: u16)
     }
 }
 
-/// A number above each LBN that a deleted header names.
+/// Returns a number above each LBN that a deleted header names.
 pub(crate) fn reach(alloc: Global, disk: &Disk<'_>) -> Result<usize, AllocError>
     ensures { IfOk result (on AreWithin disk.now) }
 {

@@ -1,4 +1,4 @@
-//! The name in the ident area of a header, by its words. It is known of a file that no directory names.
+//! The name in the ident area of a header, by its words. It is known even for a file without a directory entry.
 ghost use Rattle.std.specs.Prelude.{◌≡◌, ◌≤◌, MatchOption};
 ghost use Rattle.ods_base.specs.Block.{word as word_in};
 ghost use Rattle.ods_base.specs.Name.{IsName};
@@ -6,7 +6,7 @@ ghost use Rattle.ods_remains.specs.Idents.{name_in as name_of};
 
 use ods_base::Name;
 
-/// The name in an ident area (I.FNAM and I.FTYP), where its words spell one.
+/// Returns the name in an ident area (I.FNAM and I.FTYP), if its words spell a valid name.
 pub fn name_in(ident: &[u8; 46]) -> Option<Name>
     ensures { MatchOption result (¬ IsName (name_of ident.now)) (λ name. IsName (name_of ident.now) × (name ≡ name_of ident.now)) }
 {
@@ -23,7 +23,7 @@ pub fn name_in(ident: &[u8; 46]) -> Option<Name>
     }
 }
 
-/// A word of an ident area: 0 to 2 are those of the name, 3 is that of the type, and 4 the version.
+/// Returns a word of an ident area. Words 0 to 2 are the name, word 3 is the type, and word 4 is the version.
 pub fn ident_word(ident: &[u8; 46], place: usize) -> u16
     requires { place ≤ 22 }
     ensures { result ≡ word_in ident.now place }

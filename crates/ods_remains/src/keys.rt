@@ -1,4 +1,4 @@
-//! The keys of all candidates of an image, made in one pass, ascending, and the LBNs that they have.
+//! The keys of all candidates of an image in ascending order, built in one pass, and the LBNs in them.
 ghost use Rattle.std.specs.Prelude.{◌≡◌, ◌+◌, ◌<◌, ◌⊎◌, ◌^◌, [], ◌∷◌, ◌++◌, length, map, IfOk, OnOk};
 ghost use Rattle.std.specs.List.{filter};
 ghost use Rattle.ods_remains.specs.{Candidates.IsCandidate, Keys.key_of, Keys.place_in_chain as place_of_numbers, Keys.place_of, Keys.lbn_in, Keys.is_first_key, Keys.AreKeysBelow, Keys.IsIndexOf};
@@ -8,10 +8,10 @@ use ods_base::{Block, Image};
 use ods_header::{file_number, file_sequence, segment};
 use std::alloc::{AllocError, Global};
 
-/// How many LBNs a key has room for: those of the largest image.
+/// The number of LBNs that a key distinguishes: the blocks of the largest image.
 pub(crate) const LBNS: u64 = 1_048_576;
 
-/// A header's number, sequence number and segment as one number.
+/// Packs the number, sequence number and segment of a header into one number.
 pub(crate) fn place_in_chain(number: u16, sequence: u16, segment: u8) -> u64
     ensures value { result ≡ place_of_numbers number sequence segment }
     ensures small { result < 2 ^ 40 }
@@ -42,7 +42,7 @@ fn find_keys(alloc: Global, image: &Image) -> Result<Vec<u64>, AllocError>
     Ok(keys)
 }
 
-/// The keys of all candidates of an image, ascending.
+/// Returns the keys of all candidates of an image, in ascending order.
 pub(crate) fn index(alloc: Global, image: &Image) -> Result<Vec<u64>, AllocError>
     ensures { IfOk result (λ keys. IsIndexOf image.now keys.items) }
 {
@@ -53,7 +53,7 @@ pub(crate) fn index(alloc: Global, image: &Image) -> Result<Vec<u64>, AllocError
     Ok(keys)
 }
 
-/// Puts the LBNs that keys have behind these.
+/// Appends the LBNs in the keys to `lbns`.
 pub(crate) fn push_lbns(lbns: &mut Vec<u32>, keys: &[u64]) -> Result<(), AllocError>
     ensures { OnOk result (lbns.new.items ≡ lbns.old.items ++ map lbn_in keys.now) }
 {
@@ -63,7 +63,7 @@ pub(crate) fn push_lbns(lbns: &mut Vec<u32>, keys: &[u64]) -> Result<(), AllocEr
     Ok(())
 }
 
-/// Puts the LBNs that the keys of first headers have behind these.
+/// Appends the LBNs in the keys of first headers to `firsts`.
 pub(crate) fn push_first_lbns(firsts: &mut Vec<u32>, keys: &[u64]) -> Result<(), AllocError>
     ensures { OnOk result (firsts.new.items ≡ firsts.old.items ++ map lbn_in (filter is_first_key keys.now)) }
 {

@@ -1,4 +1,4 @@
-//! What each deleted header names and goes on with, looked up once. Many files may share headers.
+//! The next header and the blocks of each deleted header, looked up once. Many files may share headers.
 ghost use Rattle.std.specs.Prelude.{◌≡◌, ◌≢◌, ◌⊎◌, ◌+◌, ◌<◌, ◌==◌, [], ◌∷◌, ◌++◌, ℕ, not, length, IfOk, IfSome, OnOk, MatchOption};
 ghost use Rattle.std.specs.List.{Contains};
 ghost use Rattle.ods_header.specs.Header.{blocks_of, next_number_of, segment_of};
@@ -13,18 +13,18 @@ use ods_header::next_number;
 use ods_space::{Disk, last_number, push_header};
 use std::alloc::{AllocError, Global};
 
-/// What is kept of a deleted header.
+/// The facts that are kept for a deleted header.
 #[derive(Clone, Copy)]
 pub(crate) struct Left {
-    /// The number of the deleted header that it goes on with; 0 where it goes on with none.
+    /// The number of the next deleted header, or 0 if there is none.
     pub next: u16,
-    /// Whether it names a next header.
+    /// Whether the header names a next header.
     pub names_next: bool,
-    /// How many blocks it names.
+    /// The number of blocks that it names.
     pub blocks: u32,
-    /// How many of them are used again.
+    /// The number of these blocks that are used again.
     pub used: u32,
-    /// The first of them, where there is one.
+    /// The LBN of the first of these blocks, if there is one.
     pub first: u32,
 }
 
@@ -33,11 +33,11 @@ pub(crate) struct Left {
 pub(crate) struct Chain {
     /// The numbers of its headers, from the first to the last.
     pub headers: Vec<u16>,
-    /// Whether the last header names one more that is missing.
+    /// Whether the last header names a next header that is missing.
     pub is_cut: bool,
 }
 
-/// How many blocks a file has, and how many of them are used again.
+/// The number of blocks of a file, and the number of them that are used again.
 #[derive(Clone, Copy)]
 pub(crate) struct Totals {
     pub blocks: u32,
@@ -103,7 +103,7 @@ fn left_of(alloc: Global, disk: &Disk<'_>, number: u16) -> Result<Left, AllocErr
     })
 }
 
-/// What is kept of each deleted header, at its number.
+/// Returns the facts of each deleted header, at the index that is its number.
 pub(crate) fn all_left(alloc: Global, disk: &Disk<'_>) -> Result<Vec<Left>, AllocError>
     ensures { IfOk result (λ all. on AreLeft disk.now all.items) }
 {
@@ -115,7 +115,7 @@ pub(crate) fn all_left(alloc: Global, disk: &Disk<'_>) -> Result<Vec<Left>, Allo
     Ok(all)
 }
 
-/// What is kept of this deleted header.
+/// Returns the facts of this deleted header.
 pub(crate) fn left_at(disk: &Disk<'_>, all: &[Left], number: u16) -> Left
     requires all { on AreLeft disk.now all.now }
     requires deleted { on IsDeleted disk.now number }
@@ -155,7 +155,7 @@ fn take(disk: &Disk<'_>, all: &[Left], chain: &mut Chain, number: u16) -> Result
     Ok(())
 }
 
-/// The headers of this deleted file, by what is kept of each.
+/// Returns the headers of this deleted file, by the facts of each header.
 pub(crate) fn chain_by(
     alloc: Global,
     disk: &Disk<'_>,
@@ -181,7 +181,7 @@ pub(crate) fn chain_by(
     Ok(chain)
 }
 
-/// How many blocks these deleted headers name, and how many of them are used again.
+/// Counts the blocks that these deleted headers name, and the blocks among them that are used again.
 pub(crate) fn sum_headers(disk: &Disk<'_>, all: &[Left], headers: &[u16]) -> Totals
     requires all { on AreLeft disk.now all.now }
     requires deleted { (h : ℕ) → Contains headers.now h → on IsDeleted disk.now h }
@@ -206,7 +206,7 @@ fn with(totals: Totals, left: Left) -> Totals
     }
 }
 
-/// The blocks that this deleted header names. A header that names none is not read.
+/// Returns the blocks that this deleted header names. Does not read a header that names none.
 pub(crate) fn named_by(
     alloc: Global,
     disk: &Disk<'_>,

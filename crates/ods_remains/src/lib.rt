@@ -1,4 +1,4 @@
-//! Headers that are still there on an image, whether an index file knows them or not, and the files that they tell of.
+//! Headers that are still present on an image, whether an index file knows them or not, and the files that they describe.
 #![tactic(auto)]
 
 mod candidates;

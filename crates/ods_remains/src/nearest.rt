@@ -1,4 +1,4 @@
-//! Keys of one place in a chain, searched by halves for the nearest.
+//! A binary search for the nearest LBN among the keys with one number, sequence number and segment.
 ghost use Rattle.std.specs.Prelude.{◌+◌, ◌*◌, ◌<◌, ◌≤◌, ◌^◌, length};
 ghost use Rattle.std.specs.List.Sorted.{IsNonDecreasing, IsPartitionPoint};
 ghost use Rattle.ods_remains.specs.{Keys.IsLbnAt, Keys.IsLbnBefore, Keys.IsCloserOf, Keys.IsNearestOf};
@@ -53,7 +53,7 @@ fn closer(first: Option<u32>, second: Option<u32>, lbn: u32) -> Option<u32>
     }
 }
 
-/// The LBN nearest to this one of those whose key with this place is there.
+/// Returns the LBN nearest to `lbn` among the keys that have this place. Returns `None` if no key has it.
 pub(crate) fn nearest(keys: &[u64], place: u64, lbn: u32) -> Option<u32>
     requires ascending { IsNonDecreasing keys.now }
     requires place { place < 2 ^ 40 }

@@ -1,4 +1,4 @@
-//! All candidates of an image, and the files that they tell of.
+//! All candidates of an image, and the files that they describe.
 use crate::Scanned;
 use crate::candidates::is_candidate;
 use crate::keys::{index, place_in_chain, push_first_lbns, push_lbns};
@@ -9,8 +9,8 @@ use ods_space::push_header;
 use std::alloc::{AllocError, Global};
 use std::marker::Model;
 
-/// The candidates of an image, which are its valid headers, wherever they stand. They are found in one pass over its blocks, and take eight
-/// bytes each. A contract sees the blocks of the image.
+/// The candidates of an image: its valid headers, at any LBN. One pass over the blocks finds them, and each takes eight bytes. A contract sees the
+/// blocks of the image.
 #[derive(Drop)]
 pub struct Scan<'a> {
     image: &'a Image,
@@ -34,7 +34,7 @@ impl<'a> Scan<'a> {
     ghost use Rattle.ods_header.specs.Header.{next_number_of, blocks_of};
     ghost use Rattle.ods_remains.specs.{Candidates.HasCandidate, Candidates.HasFirst, Candidates.IsNextOf, Scanned.AreHeaders, Scanned.IsScanned};
 
-    /// The candidates of an image. An error is for want of memory.
+    /// Finds the candidates of an image. An error means out of memory.
     pub fn of(alloc: Global, image: &'a Image) -> Result<Scan<'a>, AllocError>
         ensures { IfOk result (λ scan. scan ≡ image.now) }
     {
@@ -42,7 +42,7 @@ impl<'a> Scan<'a> {
         Ok(Scan { image, keys })
     }
 
-    /// The LBNs of all candidates, by number, sequence number, segment and LBN.
+    /// Returns the LBNs of all candidates, sorted by number, sequence number, segment and LBN.
     pub fn candidates(&self, alloc: Global) -> Result<Vec<u32>, AllocError>
         ensures { IfOk result (λ lbns. AreHeaders self.now (HasCandidate self.now) lbns.items) }
     {
@@ -53,7 +53,7 @@ impl<'a> Scan<'a> {
         Ok(lbns)
     }
 
-    /// The LBNs of all first headers, by number, sequence number and LBN.
+    /// Returns the LBNs of all first headers, sorted by number, sequence number and LBN.
     pub fn files(&self, alloc: Global) -> Result<Vec<u32>, AllocError>
         ensures { IfOk result (λ lbns. AreHeaders self.now (HasFirst self.now) lbns.items) }
     {
@@ -64,7 +64,8 @@ impl<'a> Scan<'a> {
         Ok(firsts)
     }
 
-    /// Where the header stands that the candidate at this LBN names as its next one. There is none where no candidate stands there.
+    /// Returns the LBN of the header that the candidate at this LBN names as its next one. Returns `None` if there is no such header, or no
+    /// candidate is at this LBN.
     pub fn next(&self, lbn: u32) -> Option<u32>
         ensures { IsNextOf self.now lbn result }
     {
@@ -85,7 +86,7 @@ impl<'a> Scan<'a> {
         nearest(&self.keys, place, lbn)
     }
 
-    /// The file of the first header at this LBN. There is none where no first header stands there.
+    /// Returns the file of the first header at this LBN. Returns `None` if no first header is at this LBN.
     pub fn file(&self, alloc: Global, lbn: u32) -> Result<Option<Scanned>, AllocError>
         ensures { IfOk result (λ file. MatchOption file (¬ HasFirst self.now lbn) (IsScanned self.now lbn)) }
     {

@@ -1,4 +1,4 @@
-//! What is known of deleted files, and which of them share blocks. Many files may share headers, so each header is looked at a few times only.
+//! The facts of deleted files, and the blocks that they share. Many files may share headers, so each header is read only a few times.
 ghost use Rattle.std.specs.Prelude.{◌≡◌, ◌≢◌, ◌⊎◌, ◌<◌, ◌≤◌, ℕ, false, length, slice_index, slice_set, None, IfOk, MatchBool, OnOk};
 ghost use Rattle.ods_remains.specs.Deleted.{IsDeletedFile};
 ghost use Rattle.ods_remains.specs.Shared.{AreFirst, AreSeen, IsFilled, IsNoted, IsOtherOf, is_seen};
@@ -14,8 +14,7 @@ use ods_space::{Disk, last_number};
 use std::alloc::{AllocError, Global};
 use std::marker::Model;
 
-/// For each LBN that a deleted header names the lowest and the highest deleted file that names it, and what is kept of each deleted header. A
-/// contract sees the blocks with their layout.
+/// The lowest and the highest deleted file that names each LBN, and the facts of each deleted header. A contract sees the blocks with their layout.
 #[derive(Drop)]
 pub struct Shares<'a> {
     disk: Disk<'a>,
@@ -41,8 +40,8 @@ impl<'a> Shares<'a> {
     ghost use Rattle.std.specs.List.{Contains};
     ghost use Rattle.ods_remains.specs.{Chains.named_at, Deleted.IsDeleted, Deleted.IsDeletedFile, Deleted.former, Shared.IsSharer, Shared.IsSharerAt, Summary.HasSummary, Summary.IsSharerOrSelf};
 
-    /// The tables of a disk. It meets each header a few times, however many files share it, and takes four bytes for each LBN up to the highest
-    /// that one names.
+    /// Builds the tables of a disk. Reads each header a few times, even if many files share it. Takes four bytes for each LBN up to the highest one
+    /// that a header names.
     pub fn of(alloc: Global, disk: &Disk<'a>) -> Result<Shares<'a>, AllocError>
         ensures { IfOk result (λ s. (s.image ≡ disk.now.image.now) × (s.layout ≡ disk.now.layout.now)) }
     {
@@ -71,7 +70,7 @@ impl<'a> Shares<'a> {
         None
     }
 
-    /// What is known of the deleted file with this number. It reads the headers of a file up to the first that another one has.
+    /// Returns the facts of the deleted file with this number. Reads its headers up to the first one that another file has.
     pub fn summary(&self, alloc: Global, number: u16) -> Result<Summary, AllocError>
         requires { IsDeletedFile self.now.image self.now.layout number }
         ensures { IfOk result (HasSummary self.now.image self.now.layout number) }

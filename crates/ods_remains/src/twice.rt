@@ -1,11 +1,11 @@
-//! Whether a list of blocks names one of them twice.
+//! The search for a repeated block in a list of blocks.
 ghost use Rattle.std.specs.Prelude.{nat_eq, IfOk, MatchBool};
 ghost use Rattle.std.specs.List.{IsDistinct};
 ghost use Rattle.std.specs.List.Sorted.{IsNonDecreasing};
 
 use std::alloc::{AllocError, Global};
 
-/// Whether one of these blocks comes again. It takes memory for as many.
+/// Returns whether one of these blocks occurs twice. Takes memory for as many blocks.
 pub(crate) fn names_twice(alloc: Global, blocks: &[u32]) -> Result<bool, AllocError>
     ensures { IfOk result (λ twice. MatchBool twice (¬ IsDistinct nat_eq blocks.now) (IsDistinct nat_eq blocks.now)) }
 {

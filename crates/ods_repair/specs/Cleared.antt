@@ -1,4 +1,4 @@
--- Names that name no file go: the requests that are made, what they leave, and why not all are made.
+-- Names that name no file are deleted: the requests, their result, and the reason why not all are made.
 use Rattle.std.specs.Prelude.{◌≡◌, ◌⊎◌, ◌↔◌, ℕ, List}
 use Rattle.ods_base.specs.declared.listed.Listed.{Listed}
 use Rattle.ods_base.specs.declared.name.Pick.TheVariants.{Exact}
@@ -14,7 +14,7 @@ use Rattle.ods_repair.specs.Kept.{KeepsFiles}
 use Rattle.ods_repair.specs.declared.fault.RepairFault.{RepairFault}
 use Rattle.ods_repair.specs.declared.fault.RepairFault.TheVariants.{NoMemory, NotRemoved}
 
--- the request that removes this very entry
+-- the request that removes exactly this entry
 abbrev pub removal_of : Dangling → Asked
 removal_of x = Remove x.directory x.line.name (Exact x.line.version)
 
@@ -33,8 +33,8 @@ pub record IsCleared (old : Filed) (found : List Dangling) (new : Filed) : Type 
   -- the names are those that named a file, and each names the file that it named
   pub kept : (d : ℕ) (line : Listed) → HasName new.image new.layout d line ↔ (HasName old.image old.layout d line × IsIdOfFile old.image old.layout line.file)
 
--- Why not all of them were removed: there is no memory for their list, and the volume is as it was. Or those before one were removed, and that one is
--- refused: its directory denies the user Write, or there is no memory.
+-- The reason why not all of them were removed. There is no memory for their list, and the volume is unchanged. Or the earlier entries were removed,
+-- and this one is refused: its directory denies the user Write, or memory runs out.
 abbrev pub IsNotCleared : Filed → Filed → RepairFault → Type 0
 IsNotCleared old new NoMemory = new ≡ old
 IsNotCleared old new (NotRemoved x reason) =

@@ -1,4 +1,5 @@
--- What a repair leaves of a volume that a mount refuses: the blocks by which it is read, and so its layout, headers, chains and files.
+-- The effect of a repair on a volume that a mount refuses: the blocks by which it is read are unchanged, and so are its layout, headers, chains and
+-- files.
 use Rattle.std.specs.Prelude.{◌≡◌, ◌↔◌, ◌⊎◌, ℕ, ◌+◌, ◌<◌, ◌≤◌, List, length}
 use Rattle.std.specs.List.{Contains}
 use Rattle.ods_base.specs.Image.{block_at}
@@ -7,20 +8,20 @@ use Rattle.ods_space.specs.Layout.{VolumeLayout, header_at, is_in_use}
 use Rattle.ods_space.specs.Chain.{IsChain}
 use Rattle.ods_space.specs.Files.{HasBlocks, Holds, IsFile, IsLayoutOf}
 
--- A block that the layout finds with no file: a place of a home block, or of the index bitmap and of headers 1 to 16, which stand one behind the other.
+-- A block that the layout locates without a file: at a location of a home block, or of the index bitmap and headers 1 to 16, which are consecutive.
 abbrev pub IsFixedPlace : VolumeLayout → ℕ → Type 0
 IsFixedPlace L b = IsHomePlace b ⊎ ((L.home.index_bitmap_lbn ≤ b) × (b < L.home.index_bitmap_lbn + L.home.index_bitmap_size + 16))
 
--- A block by which the volume is read: such a one, or one of INDEXF.SYS.
+-- A block by which the volume is read: a fixed block, or a block of INDEXF.SYS.
 abbrev pub IsOwn : VolumeLayout → ℕ → Type 0
 IsOwn L b = IsFixedPlace L b ⊎ Contains L.index b
 
--- J has as many blocks as I, and the same blocks where the volume is read by them
+-- J has as many blocks as I, and the same blocks by which the volume is read
 pub record KeepsOwn (I J : List (List ℕ)) (L : VolumeLayout) : Type 0 where
   pub long : length J ≡ length I
   pub own : (b : ℕ) → IsOwn L b → block_at J b ≡ block_at I b
 
--- J is read as I is: by the same layout, with the same home block, headers and index bits, and each file has its chain and its blocks.
+-- J is read in the same way as I: by the same layout, with the same home block, headers and index bits, and each file has its chain and its blocks.
 pub record IsReadAs (I J : List (List ℕ)) (L : VolumeLayout) : Type 0 where
   pub long : length J ≡ length I
   pub layout : IsLayoutOf J L

@@ -1,4 +1,4 @@
--- What is noted while the names of a directory get new versions: of each name its highest version, and which keys have come.
+-- The notes while the names of a directory receive new versions: the highest version of each name, and the keys so far.
 use Rattle.std.specs.Prelude.{◌≡◌, ◌≢◌, ◌⊎◌, ℕ, ◌<◌, ◌≤◌, List, Option, Some, None}
 use Rattle.std.specs.Ordering.{nat_cmp}
 use Rattle.std.specs.Cmp.Lexicographic.{slice_cmp}
@@ -15,16 +15,16 @@ Numbers = List (List ℕ × ℕ)
 abbrev pub number_in : Numbers → List ℕ → Option ℕ
 number_in noted key = lookup (is_at (slice_cmp nat_cmp key)) noted
 
--- what is known of a key is at least this
+-- the number of a key is at least this
 abbrev pub IsAtLeast : Option ℕ → ℕ → Type 0
 IsAtLeast o v = (h : ℕ) × (o ≡ Some h) × (v ≤ h)
 
--- one key gets this number, and the others keep theirs
+-- one key receives this number, and the others keep theirs
 pub record Sets (old : List ℕ → Option ℕ) (key : List ℕ) (v : ℕ) (new : List ℕ → Option ℕ) : Type 0 where
   pub here : new key ≡ Some v
   pub others : (q : List ℕ) → (new q ≡ old q) ⊎ (q ≡ key)
 
--- The first p entries are done: what is known of names and keys is of the old entries, and of the new ones among these.
+-- The first p entries are done: the notes on names and keys cover the old entries, and the new ones among the first p.
 pub record IsPartly (old new : ℕ → Entry) (count p : ℕ) (highest seen : List ℕ → Option ℕ) : Type 0 where
   pub later : (k : ℕ) → p ≤ k → new k ≡ old k
   pub each : (k : ℕ) → k < p → IsKeptOr old new count k
@@ -35,7 +35,7 @@ pub record IsPartly (old new : ℕ → Entry) (count p : ℕ) (highest seen : Li
   pub seen_all : (j : ℕ) → j < p → IsUsed old count j → seen (old j).key ≢ None
   pub seen_only : (q : List ℕ) → seen q ≢ None → (j : ℕ) × (j < p) × IsUsed old count j × ((old j).key ≡ q)
 
--- Of each name among the first p entries the highest version is known, and of no other.
+-- The highest version is known for each name among the first p entries, and for no other.
 pub record AreHighest (entry : ℕ → Entry) (count p : ℕ) (highest : List ℕ → Option ℕ) : Type 0 where
   pub top : (j : ℕ) → j < p → IsUsed entry count j → IsAtLeast (highest (name_part (entry j))) (version_part (entry j))
   pub from : (q : List ℕ) (h : ℕ) → highest q ≡ Some h → (j : ℕ) × (j < p) × IsUsed entry count j × (name_part (entry j) ≡ q) × (version_part (entry j) ≡ h)

@@ -1,4 +1,4 @@
--- What a mount and a check say of an image hangs on its tables alone: every other block may have any bytes.
+-- The results of a mount and a check of an image depend only on its tables: every other block may have any bytes.
 use Rattle.std.specs.Prelude.{◌≡◌, ◌↔◌, ℕ, List}
 use Rattle.std.specs.List.{Contains}
 use Rattle.ods_base.specs.Image.{block_at}
@@ -12,13 +12,14 @@ use Rattle.ods_check.specs.declared.finding.Finding.{Finding}
 use Rattle.ods_check.specs.Findings.{IsFound}
 use Rattle.ods_repair.specs.Framed.{IsReadAs, KeepsOwn}
 
--- J has as many blocks as I, and the same tables. These are the places of home blocks, the index bitmap, the blocks of INDEXF.SYS and BITMAP.SYS, and those of directories.
+-- J has as many blocks as I, and the same tables: the locations of home blocks, the index bitmap, and the blocks of INDEXF.SYS, BITMAP.SYS and
+-- directories.
 pub record HasSameTables (I J : List (List ℕ)) (L : VolumeLayout) : Type 0 where
   pub own : KeepsOwn I J L
   pub bitmap : (b : ℕ) → Contains L.bitmap b → block_at J b ≡ block_at I b
   pub directories : (n b : ℕ) (blocks : List ℕ) → IsDirectoryFile I L n → HasBlocks I L n blocks → Contains blocks b → block_at J b ≡ block_at I b
 
--- J says of its files what I says: it has the same headers, chains, free blocks and names, the same faults and the same findings, and is sound where I is.
+-- J has the same facts of files as I: the same headers, chains, free blocks and names, the same faults and the same findings. It is sound if I is.
 pub record SaysTheSame (I J : List (List ℕ)) (L : VolumeLayout) : Type 0 where
   pub read : IsReadAs I J L
   pub free : (b : ℕ) → is_free_block J L b ≡ is_free_block I L b
@@ -27,6 +28,6 @@ pub record SaysTheSame (I J : List (List ℕ)) (L : VolumeLayout) : Type 0 where
   pub findings : (finding : Finding) → IsFound I L finding ↔ IsFound J L finding
   pub sound : IsSoundBy I L ↔ IsSoundBy J L
 
--- Images with the same tables say the same of their files.
+-- Images with the same tables have the same facts of files.
 abbrev pub TablesSayAll : Type 0
 TablesSayAll = (I J : List (List ℕ)) (L : VolumeLayout) → IsLayoutOf I L → HasSameTables I J L → SaysTheSame I J L

@@ -1,4 +1,4 @@
--- Images of which all that `used`, `share` and `double` mend is mended: they are sound where nothing else was wrong.
+-- Images in which all faults that `used`, `share` and `double` mend are mended: they are sound if there was no other fault.
 use Rattle.std.specs.Prelude.{◌≡◌, ℕ, ◌≤◌, List, [], ◌∷◌}
 use Rattle.std.specs.List.{All, Contains}
 use Rattle.ods_space.specs.Layout.{VolumeLayout}
@@ -14,7 +14,7 @@ use Rattle.ods_repair.specs.Unshared.{HasOwnRuns}
 use Rattle.ods_repair.specs.Used.{AreUsed}
 use Rattle.ods_repair.specs.declared.unsharing.Unshared.{Unshared}
 
--- the names of each of these directories are new, one directory after another
+-- the names of each of these directories are renumbered, one directory after another
 abbrev pub AreRenumberedIn : VolumeLayout → List ℕ → List (List ℕ) → List (List ℕ) → Type 0
 AreRenumberedIn L [] I J = J ≡ I
 AreRenumberedIn L (d ∷ ds) I J = (mid : List (List ℕ)) × HasRenumbered I L d mid × AreRenumberedIn L ds mid J
@@ -23,20 +23,20 @@ AreRenumberedIn L (d ∷ ds) I J = (mid : List (List ℕ)) × HasRenumbered I L 
 abbrev pub IsAllUsed : List (List ℕ) → List (List ℕ) → Type 0
 IsAllUsed I J = (L : VolumeLayout) × (blocks : List ℕ) × IsLayoutOf I L × AreUsed I L blocks J
 
--- runs of file n have blocks of their own, and nothing of it is left
+-- runs of file n have blocks of their own, and none of its runs is left
 abbrev pub IsUnshared : List (List ℕ) → VolumeLayout → ℕ → List (List ℕ) → Type 0
 IsUnshared I L n J = (told : Unshared) × HasOwnRuns I L n told J × (told.left ≡ 0)
 
--- so it is with each of these files, one after another
+-- this holds for each of these files, one after another
 abbrev pub AreUnsharedIn : VolumeLayout → List ℕ → List (List ℕ) → List (List ℕ) → Type 0
 AreUnsharedIn L [] I J = J ≡ I
 AreUnsharedIn L (n ∷ ns) I J = (mid : List (List ℕ)) × IsUnshared I L n mid × AreUnsharedIn L ns mid J
 
--- no file shares a block any more with one before it, or holds one twice
+-- no file shares a block with an earlier file, or holds one twice
 abbrev pub IsAllUnshared : List (List ℕ) → List (List ℕ) → Type 0
 IsAllUnshared I J = (L : VolumeLayout) × (ns : List ℕ) × IsLayoutOf I L × ((m n b : ℕ) → m ≤ n → IsTrueOf I L (DoublyUsed m n b) → Contains ns n) × AreUnsharedIn L ns I J
 
--- in each directory that had two names which are one they are so no more
+-- each directory that had two equal names has distinct names
 abbrev pub IsAllRenumbered : List (List ℕ) → List (List ℕ) → Type 0
 IsAllRenumbered I J = (L : VolumeLayout) × (ds : List ℕ) × IsLayoutOf I L × ((d : ℕ) → IsTrueOf I L (DuplicateName d) → Contains ds d) × AreRenumberedIn L ds I J
 
@@ -47,17 +47,17 @@ IsMendable (DoublyUsed m n b) = Unit {0}
 IsMendable (DuplicateName d) = Unit {0}
 IsMendable other = ⊥
 
--- Where all faults of an image are of these three kinds, it is sound once all are mended.
+-- If all faults of an image are of these three kinds, it is sound after all are mended.
 abbrev pub MendedIsSound : Type 0
 MendedIsSound = (I H K J : List (List ℕ)) → ((fault : MountFault) → FaultIsTrue I fault → IsMendable fault) → IsAllUsed I H → IsAllUnshared H K → IsAllRenumbered K J → IsSound J
 
--- a line of a check that says such a fault
+-- a line of a check with such a fault
 abbrev pub IsMendableLine : FaultLine → Type 0
 IsMendableLine (Plain fault) = IsMendable fault
 IsMendableLine (Shared m n b count) = Unit {0}
 IsMendableLine (Index why) = ⊥
 
--- Where all lines that a check tells of an image are of these three kinds, it is sound once all are mended.
+-- If all lines of a check of an image are of these three kinds, it is sound after all are mended.
 abbrev pub MendedLinesAreSound : Type 0
 MendedLinesAreSound = (I H K J : List (List ℕ)) (L : VolumeLayout) (others : List ℕ) (lines : List FaultLine) → IsLayoutOf I L → TellsAll I L others lines → All IsMendableLine lines
     → IsAllUsed I H → IsAllUnshared H K → IsAllRenumbered K J → IsSound J

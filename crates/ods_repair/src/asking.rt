@@ -1,4 +1,4 @@
-//! Requests of a repair: one for each thing that was found, one after another. The first one that is refused ends it.
+//! Requests of a repair: one for each finding, in order. The first refused request ends it.
 ghost use Rattle.std.specs.Prelude.{◌≡◌, IfErr, OnErr, OnOk};
 ghost use Rattle.ods_request.specs.declared.refusals.Refusal.{Refusal as Reason};
 ghost use Rattle.ods_state.specs.Outcome.{CanBeAsked};
@@ -10,7 +10,7 @@ use crate::RepairFault;
 use ods_filing::Filing;
 use ods_request::{Refusal, Request};
 
-/// Which request a repair makes for each thing that it found.
+/// The requests of a repair for its findings.
 pub(crate) trait Plan {
     ghost use Rattle.std.specs.Prelude.{◌≡◌};
     ghost use Rattle.ods_request.specs.declared.refusals.Refusal.{Refusal as Reason};
@@ -21,10 +21,10 @@ pub(crate) trait Plan {
     /// What is found.
     type Item: Copy;
 
-    /// The request for one.
+    /// The request for one finding.
     ghost request_of: { Self → Self.Item → Asked };
 
-    /// Why the repair is not done, where the volume refuses the request for one.
+    /// The fault of the repair if the volume refuses the request for a finding.
     ghost fault_of: { Self.Item → Reason → Fault };
 
     /// The request for one.
@@ -37,7 +37,7 @@ pub(crate) trait Plan {
         ensures { result ≡ fault_of item reason };
 }
 
-/// Makes the request of each of these, one after another. After a refusal those before it are made.
+/// Makes the request of each finding, in order. After a refusal, the requests before it are made.
 pub(crate) fn ask_all<P: Plan>(
     filing: &mut Filing,
     plan: &P,

@@ -1,4 +1,4 @@
-//! `repair double`: of equal names in a directory each but the first gets the next version of its name, in an image that a mount refuses.
+//! `repair double`: each repeated name in a directory except the first receives the next version of its name, in an image that a mount refuses.
 ghost use Rattle.std.specs.Prelude.{◌≡◌, ◌≢◌, ◌*◌, ◌/◌, ◌+◌, ◌<◌, ◌≤◌, ◌⊎◌, ℕ, List, length, map, IfErr, IfNone, IfOk, IfSome, IsTrue, OnErr, OnOk, slice_set};
 ghost use Rattle.std.specs.List.{All};
 ghost use Rattle.ods_base.specs.Image.{block_at};
@@ -19,9 +19,15 @@ use ods_mount::FileBlocks;
 use ods_space::{Disk, Layout};
 use std::alloc::{AllocError, Global};
 
-/// Gives each name of a directory that has the name, type and version of one nearer its front the next version of that name: one more than the highest. The image
-/// may be one that a mount refuses. It is refused where the directory has no whole chain, an entry is no name, a name has no next version, or the blocks
-/// of the directory cannot change with nothing else. Refused, the image is as it was.
+/// Gives each entry of a directory with the name, type and version of an earlier entry the next version of that name: one more than the highest.
+/// The image may be one that a mount refuses. The repair is refused if:
+///
+/// - the directory has no whole chain, or an entry is not a valid name;
+/// - a name has no next version;
+/// - the blocks of the directory are fixed or shared, so that their change would change something else;
+/// - memory runs out.
+///
+/// After a refusal, the image is unchanged.
 pub fn renumber_doubles(
     alloc: Global,
     image: &mut Image,

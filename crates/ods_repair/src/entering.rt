@@ -20,9 +20,10 @@ use ods_request::{Refusal, Request};
 use ods_space::{Disk, primary_header};
 use std::alloc::{AllocError, Global};
 
-/// Enters each file above 5 that no directory names in this directory, under the name in its header and in the next version of it, and gives what was
-/// entered, ascending by their numbers. A lost directory is entered too. A file whose header has no name stays lost. All are found before the first
-/// one is entered. The user of the volume asks for it, and needs the right Write to the directory. Refused, those before the one that is refused are entered.
+/// Enters in a directory each file above 5 that no directory names, with the name in its header and the next version. Returns the entered files in
+/// ascending order of their numbers. A lost directory is entered too. A file whose header has no name stays lost. All files are found before the
+/// first one is entered. The user of the volume makes the requests, and needs the right Write to the directory. After a refusal, the files before
+/// the refused one are entered.
 pub fn enter_lost(
     alloc: Global,
     filing: &mut Filing,

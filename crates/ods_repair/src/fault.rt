@@ -1,4 +1,4 @@
-//! Why a repair is not done.
+//! The reason why a repair is not done.
 use crate::lost_file::LostFile;
 use ods_base::{FileId, print_name, print_title, print_type};
 use ods_check::Dangling;
@@ -6,16 +6,16 @@ use ods_request::Refusal;
 use std::alloc::AllocError;
 use thiserror::Error;
 
-/// Why a repair is not done. The volume is then as it was, but where a request is refused: then those before it are made.
+/// The reason why a repair is not done. The volume is then unchanged, unless a request is refused: then the requests before it are made.
 #[derive(Clone, Copy, Debug, PartialEq, Eq, Error)]
 pub enum RepairFault {
-    /// This number is in use and has no valid header, so it is not known which blocks it holds.
+    /// This number is in use and has no valid header, so the blocks of its file are unknown.
     #[error("file number {0} is marked as used and has no header, so the blocks of its file are not known")]
     NoHeader(u16),
-    /// No file reaches this extension header, so it is not known whose its blocks are.
-    #[error("header {number},{sequence} is an extension header that no file reaches, so its blocks may be those of a file", number = .0.number, sequence = .0.sequence)]
+    /// No file reaches this extension header, so the owner of its blocks is unknown.
+    #[error("header {number},{sequence} is an extension header that no file reaches, so its blocks may belong to a file", number = .0.number, sequence = .0.sequence)]
     Unreached(FileId),
-    /// There is no memory.
+    /// Out of memory.
     #[error("out of memory")]
     NoMemory,
     /// The entry is not removed, for this reason.
@@ -24,32 +24,32 @@ pub enum RepairFault {
     /// The lost file is not entered, for this reason.
     #[error("file {number},{sequence} is not entered as {title}.{kind}: {1}", number = .0.file.number, sequence = .0.file.sequence, title = print_title(&.0.name), kind = print_type(&.0.name))]
     NotEntered(LostFile, Refusal),
-    /// This block of the file is a place of a home block, of the index bitmap or of headers 1 to 16.
-    #[error("block {1} of file {0} is a place of a home block, of the index bitmap or of headers 1 to 16")]
+    /// This block of the file is at a location of a home block, of the index bitmap or of headers 1 to 16.
+    #[error("block {1} of file {0} is reserved for a home block, the index bitmap or headers 1 to 16")]
     FixedBlock(u16, u32),
-    /// Another file holds this block of the file too.
-    #[error("block {1} of file {0} is held by another file too")]
+    /// Another file also holds this block of the file.
+    #[error("block {1} of file {0} belongs to another file too")]
     SharedBlock(u16, u32),
     /// The file has this block twice.
     #[error("file {0} has block {1} twice")]
     RepeatedBlock(u16, u32),
-    /// The file is one of the volume's own, whose blocks stay where they are.
-    #[error("file {0} is one of the volume's own, whose blocks stay where they are")]
+    /// The file is one of the volume's own, and its blocks do not move.
+    #[error("file {0} is a reserved file, whose blocks are not moved")]
     Reserved(u16),
     /// The file has no whole chain.
-    #[error("the chain of file {0} is not whole")]
+    #[error("headers or blocks of file {0} are missing")]
     NoChain(u16),
-    /// A file holds this block, and it is marked as free.
-    #[error("block {0} is held and is marked as free: `repair used` marks it as used")]
+    /// A file holds this block, and it is marked free.
+    #[error("block {0} belongs to a file and is marked as free: 'repair used' marks it as used")]
     HeldFree(u32),
     /// There is no directory of this number with a whole chain.
-    #[error("it is no directory whose blocks are known")]
+    #[error("it is not a directory with an intact header chain")]
     NoDirectory,
-    /// An entry of the directory is no name.
-    #[error("an entry of the directory is no name")]
+    /// An entry of the directory is not a valid name.
+    #[error("an entry of the directory has no valid name")]
     BadEntry,
-    /// A name that is there twice has no next version.
-    #[error("a name that is there twice has no next version")]
+    /// A name that occurs twice has no next version.
+    #[error("a name that occurs twice has no next version")]
     VersionsFull,
 }
 

@@ -12,9 +12,9 @@ use ods_filing::Filing;
 use ods_space::Disk;
 use std::alloc::Global;
 
-/// Frees each block that the storage bitmap says is used and that no file holds, but for the boot block and the places of home blocks. It gives the runs
-/// of these blocks, as they were found. Where there are such blocks it is refused if a number in use has no valid header, or an extension header is reached by
-/// no file: these may hold blocks. Refused, the volume is as it was.
+/// Frees each block that the storage bitmap marks used and that no file holds, except the boot block and the locations of home blocks. Returns the
+/// runs of these blocks, as they were found. If there are such blocks, the repair is refused if a number in use has no valid header, or no file
+/// reaches an extension header: their blocks may be in use. After a refusal, the volume is unchanged.
 pub fn free_unheld(alloc: Global, filing: &mut Filing) -> Result<Told<Finding>, RepairFault>
     // All these blocks are free then, none else is, and nothing else was done.
     ensures freed { IfOk result (λ told. IsFreed filing.old told.0 filing.new) }

@@ -1,17 +1,18 @@
-//! Laws over the definitions alone: each stands on a function with no body.
+//! Laws over the definitions only. The clause of a function without a body states each law.
 ghost use Rattle.ods_repair.specs.{Tables.TablesSayAll, Wholly.MendedIsSound, Wholly.MendedLinesAreSound};
 
-/// `used`, `share` and `double` together make an image sound. Each of its faults has to be of one of these kinds.
+/// Proves that `used`, `share` and `double` together make an image sound, if all its faults are of these kinds.
 pub fn mended_is_sound()
     ensures { MendedIsSound }
 {}
 
-/// So it is where each line that `check_all` gives of an image is of one of these kinds.
+/// Proves the same if each line that `check_all` returns for an image is of one of these kinds.
 pub fn mended_lines_are_sound()
     ensures { MendedLinesAreSound }
 {}
 
-/// What a mount and a check say of an image hangs on its tables alone: the places of home blocks, INDEXF.SYS, BITMAP.SYS and directories.
+/// Proves that the results of a mount and a check of an image depend only on its tables: the locations of home blocks, INDEXF.SYS, BITMAP.SYS and
+/// directories.
 pub fn tables_say_all()
     ensures { TablesSayAll }
 {}

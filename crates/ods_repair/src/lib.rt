@@ -1,4 +1,4 @@
-//! Repairs of a volume: what is wrong of one kind goes, and nothing else changes.
+//! Repairs of a volume. Each repair removes the faults of one kind, and changes nothing else.
 #![tactic(auto)]
 
 mod asking;

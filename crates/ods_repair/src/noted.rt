@@ -24,7 +24,7 @@ impl Model for Noted {
 }
 
 impl Noted {
-    /// None yet.
+    /// Returns an empty list.
     pub fn new(alloc: Global) -> Noted
         ensures { result ≡ [] }
     {
@@ -33,14 +33,14 @@ impl Noted {
         }
     }
 
-    /// The number of a key.
+    /// Returns the number of a key.
     pub fn get(&self, key: &Key) -> Option<u16>
         ensures { result ≡ number_in self.now key.now }
     {
         self.numbers.get(key).copied()
     }
 
-    /// The key gets this number.
+    /// Sets the number of a key.
     pub fn put(&mut self, key: Key, number: u16) -> Result<(), AllocError>
         ensures { OnOk result (Sets (number_in self.old) key number (number_in self.new)) }
     {

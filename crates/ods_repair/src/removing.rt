@@ -1,4 +1,4 @@
-//! `repair names`: entries that name no file go.
+//! `repair names`: entries that name no file are deleted.
 ghost use Rattle.std.specs.Prelude.{◌≡◌, IfErr, IfOk};
 ghost use Rattle.ods_base.specs.declared.name.Pick.{Pick as Picked};
 ghost use Rattle.ods_request.specs.declared.requests.Request.{Request as Asked};
@@ -13,9 +13,9 @@ use ods_filing::Filing;
 use ods_request::{Refusal, Request};
 use std::alloc::Global;
 
-/// Removes each entry of each directory that names no file, by its name and its version, and gives what was removed: entries of lower directories
-/// first. All are found before the first one is removed. The user of the volume asks for it, and needs the right Write to each of these directories.
-/// Refused, those before the one that is refused are removed.
+/// Removes each entry of each directory that names no file, by its name and its version. Returns the removed entries, sorted by directory number
+/// and then by name. All entries are found before the first one is removed. The user of the volume makes the requests, and needs the right Write to
+/// each of these directories. After a refusal, the entries before the refused one are removed.
 pub fn remove_dangling(alloc: Global, filing: &mut Filing) -> Result<Vec<Dangling>, RepairFault>
     // Refused or not, it is what removing entries leaves.
     ensures led { IsLed RemovesEntries filing.old filing.new }

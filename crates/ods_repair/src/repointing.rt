@@ -1,12 +1,12 @@
-//! Headers one of whose pointers leads elsewhere.
+//! Headers with one changed retrieval pointer.
 ghost use Rattle.std.specs.Prelude.{◌^◌, ◌/◌, ◌<◌};
 ghost use Rattle.ods_header.specs.Header.{IsLaidOut, used_words_of};
 ghost use Rattle.ods_repair.specs.Repointed.{IsRepointed};
 
 use ods_base::{Block, set_word, sum};
 
-/// The block of a header with this LBN in retrieval pointer `at`, counted from 0, and with its sum made anew. The pointer names as many blocks as before, and
-/// every other byte stays.
+/// Returns the block of a header with this LBN in retrieval pointer `at`, counted from 0, and with its new checksum. The pointer names as many
+/// blocks as before, and every other byte is unchanged.
 pub(crate) fn repointed(block: &Block, at: usize, to: u32) -> Block
     requires layout { IsLaidOut block.now }
     requires inside { at < used_words_of block.now / 2 }

@@ -1,4 +1,4 @@
-//! One run of a file gets blocks of its own: its bytes, the bits of the new blocks, and the pointer that names it.
+//! The move of one run of a file to blocks of its own: its bytes, the bits of the new blocks, and the pointer that names it.
 ghost use Rattle.std.specs.Prelude.{◌≡◌, ◌≢◌, ℕ, ◌+◌, ◌/◌, ◌<◌, ◌≤◌, false, length, true};
 ghost use Rattle.std.specs.List.{All, range_with_len};
 ghost use Rattle.ods_header.specs.Header.{used_words_of};
@@ -13,8 +13,8 @@ use ods_base::Image;
 use ods_header::pointer_at;
 use ods_space::Layout;
 
-/// Has retrieval pointer `at` of the first header of this file, counted from 0, lead to the blocks from LBN `to` on, as many as it names. They get the bytes of
-/// the old ones and are marked as used.
+/// Points retrieval pointer `at` of the first header of this file, counted from 0, to the blocks from LBN `to` on, as many as it names. These
+/// blocks receive the bytes of the old ones and are marked used.
 pub(crate) fn move_run(image: &mut Image, layout: &Layout, file: u16, at: usize, to: u32)
     requires can { CanMove image.old layout.now file }
     requires inside { at < used_words_of (header_at image.old layout.now file) / 2 }

@@ -1,4 +1,4 @@
-//! Whether blocks of a file can change with nothing else, as a repair asks before it changes them.
+//! The check before a repair changes blocks of a file: whether they can change without another effect.
 ghost use Rattle.std.specs.Prelude.{ℕ, IfErr, MatchBool, OnOk};
 ghost use Rattle.ods_space.specs.{Disks.on, Files.AreInside, Files.IsLayoutOf};
 ghost use Rattle.ods_repair.specs.{Framed.IsFixedPlace, Spare.AreApart, Spare.AreOnce, Spare.AreSpare, Spare.IsNotSpare};
@@ -9,8 +9,8 @@ use ods_mount::{NumberSet, is_home_place};
 use ods_space::{Disk, Layout};
 use std::alloc::Global;
 
-/// The blocks of this file, from the one with this index on, can change with nothing else: none is a place of a home block, of the index bitmap or of headers
-/// 1 to 16, no other file holds one, and the file has no block twice.
+/// Checks that the blocks of this file, from index `first` on, can change without another effect. None is at a location of a home block, of the
+/// index bitmap or of headers 1 to 16. No other file holds one, and the file has no block twice.
 pub(crate) fn check_spare(
     alloc: Global,
     disk: &Disk<'_>,
@@ -28,7 +28,7 @@ pub(crate) fn check_spare(
     Ok(())
 }
 
-/// The file has no block twice.
+/// Checks that the file has no block twice.
 pub(crate) fn check_once(
     alloc: Global,
     disk: &Disk<'_>,

@@ -1,4 +1,4 @@
-//! `repair share`: runs of a file with blocks that are held twice get blocks of their own, in an image that a mount refuses.
+//! `repair share`: runs of a file with blocks that are held twice receive blocks of their own, in an image that a mount refuses.
 ghost use Rattle.std.specs.Prelude.{◌≡◌, ◌≢◌, ℕ, ◌*◌, ◌/◌, ◌^◌, ◌+◌, ◌<◌, ◌≤◌, length, IfErr, IfOk, MatchBool, OnErr, OnOk, Some};
 ghost use Rattle.std.specs.List.{All};
 ghost use Rattle.ods_header.specs.Header.{used_words_of};
@@ -18,7 +18,8 @@ use ods_mount::NumberSet;
 use ods_space::{ChainFault, Disk, Layout, chain};
 use std::alloc::{AllocError, Global};
 
-/// How many runs of a file got blocks of their own, and how many runs, or blocks that extension headers name, are left with a block that is held twice.
+/// The number of runs of a file that received blocks of their own, and the number that still have a block that is held twice. Runs, and blocks that
+/// extension headers name, count.
 #[derive(Clone, Copy, Debug, PartialEq, Eq)]
 pub struct Unshared {
     pub moved: u32,
@@ -30,15 +31,16 @@ pub struct Unshared {
 enum Outcome {
     /// None of its blocks is held twice.
     Stays,
-    /// It has blocks of its own.
+    /// It received blocks of its own.
     Moved,
-    /// No run of free blocks is as long.
+    /// No run of free blocks is long enough.
     Left,
 }
 
-/// Gives runs of a file blocks of their own, where they have a block that another file holds too or that the file has before it. A run moves with its bytes to
-/// the lowest run of free blocks that is long enough. What finds no such run, and what extension headers name, is left and counted. Blocks that the
-/// file leaves stay marked as used. The image may be one that a mount refuses, but its index is good. Refused, the image is as it was.
+/// Gives runs of a file blocks of their own, if they have a block that another file also holds or that the file has earlier. A run moves with its
+/// bytes to the lowest run of free blocks that is long enough. A run without such a free run is left and counted, and so are the blocks that
+/// extension headers name. Blocks that the file leaves stay marked used. The image may be one that a mount refuses, but its index is good. After a
+/// refusal, the image is unchanged.
 pub fn unshare(
     alloc: Global,
     image: &mut Image,

@@ -1,4 +1,4 @@
-//! `repair used`: blocks that files hold and that the storage bitmap says are free become used, in an image that a mount refuses.
+//! `repair used`: blocks that files hold and that the storage bitmap marks free become used, in an image that a mount refuses.
 ghost use Rattle.std.specs.Prelude.{◌≡◌, ◌≢◌, ◌↔◌, ◌⊎◌, ◌<◌, ℕ, [], false, length, IfErr, IfOk, IsTrue, OnErr};
 ghost use Rattle.std.specs.{List.All, List.Contains, List.Sorted.IsStrictlyIncreasing};
 ghost use Rattle.ods_space.specs.{Disks.on, Files.IsLayoutOf, Free.is_covered};
@@ -13,9 +13,15 @@ use ods_check::find_free_held_blocks;
 use ods_space::{Disk, Layout};
 use std::alloc::Global;
 
-/// Marks as used each block that a file with a whole chain holds and that the storage bitmap says is free. It gives these blocks by their LBNs, ascending. The image may be
-/// one that a mount refuses. Where there are such blocks it is refused if the storage bitmap cannot change alone: one of its blocks is a place of a home
-/// block, of the index bitmap or of headers 1 to 16, or another file holds it, or BITMAP.SYS has a block twice. Refused, the image is as it was.
+/// Marks as used each block that a file with a whole chain holds and that the storage bitmap marks free. Returns the LBNs of these blocks in
+/// ascending order. The image may be one that a mount refuses. If there are such blocks, the repair is refused if the storage bitmap cannot change
+/// without another effect:
+///
+/// - one of its blocks is at a location of a home block, of the index bitmap or of headers 1 to 16;
+/// - another file holds one of its blocks;
+/// - BITMAP.SYS has a block twice.
+///
+/// After a refusal, the image is unchanged.
 pub fn mark_used(alloc: Global, image: &mut Image, layout: &Layout) -> Result<Vec<u32>, RepairFault>
     requires { IsLayoutOf image.old layout.now }
     // These blocks are used then, and nothing else was done.
@@ -62,7 +68,7 @@ fn mark_all(image: &mut Image, layout: &Layout, blocks: &[u32])
     }
 }
 
-/// Marks this block as used, where the storage bitmap covers it.
+/// Marks this block as used, if the storage bitmap covers it.
 pub(crate) fn mark_one(image: &mut Image, layout: &Layout, lbn: u32)
     requires inside { All (λ b. b < length image.old) layout.now.bitmap }
     ensures { (IsTrue (is_covered layout.now lbn) × PutsBit image.old (block_bit layout.now lbn).0 (block_bit layout.now lbn).1 false image.new)

@@ -1,10 +1,10 @@
--- How a compact answer keeps its answer.
+-- The forms of a compact answer.
 use Rattle.ods_request.specs.declared.answers.Answer.{Answer}
 use Rattle.ods_request.specs.declared.answers.Answer.TheVariants as answer
 use Rattle.ods_request.specs.declared.compact_answer.AnswerForm.{AnswerForm}
 use Rattle.ods_request.specs.declared.compact_answer.AnswerForm.TheVariants as form
 
--- the answer that is kept
+-- the answer that the form stores
 abbrev pub answer_in : AnswerForm → Answer
 answer_in (form.Created id) = answer.Created id
 answer_in (form.Extended count) = answer.Extended count

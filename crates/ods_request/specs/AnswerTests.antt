@@ -1,14 +1,14 @@
--- The tests of equality, from names and file IDs up to answers: each says whether two values are equal.
+-- The tests of equality, from names and file IDs up to answers. Each test decides whether two values are equal.
 use Rattle.std.proofs.Common.{◌≡◌, ◌∙◌, refl, sym, Bool, true, false, List, ◌⊎◌, inl, inr, arith}
 use lib.Pointwise.{pointwise, pointwise_decides, bytes_decides}
 use Rattle.ods_base.specs.declared.listed.Listed.{Listed}
 use Rattle.ods_request.specs.Equal.{same_bytes, same_id, same_user, same_name, same_line, same_kind, same_stat, same_answer}
 
--- two values fail the test, or they are equal
+-- two values are equal, or they fail the test
 abbrev pub Tells : {A : Type 0} → (A → A → Bool) → Type 0
 Tells {A = A} same = (a b : A) → (same a b ≡ false) ⊎ (a ≡ b)
 
--- each value passes it with itself
+-- each value passes the test with itself
 abbrev pub Knows : {A : Type 0} → (A → A → Bool) → Type 0
 Knows {A = A} same = (a : A) → same a a ≡ true
 
@@ -19,7 +19,7 @@ tells same equal a b = by (same a b) refl
     by true e = inr (equal a b e)
     by false e = inl e
 
--- what passes the test is equal
+-- two values that pass the test are equal
 pub equal_by : {A : Type 0} (same : A → A → Bool) → Tells same → (a b : A) → same a b ≡ true → a ≡ b
 equal_by same told a b h = elim (told a b) [ inl e ↦ absurd (let g : true ≡ false = sym h ∙ e in cc) | inr e ↦ e ]
 

@@ -1,4 +1,4 @@
--- Which requests have a block, which a compact request keeps apart.
+-- Which requests have a block. A compact request stores this block apart.
 use Rattle.std.specs.Prelude.{Bool, true, false}
 use Rattle.ods_request.specs.declared.requests.Request.{Request}
 use Rattle.ods_request.specs.declared.requests.Request.TheVariants as request

@@ -1,17 +1,17 @@
--- Why a test that decides whether two are equal is a lawful `==`; and so the tests of two requests, and of two answers.
+-- Why a test that decides equality is a lawful `==`, for the tests of two requests and of two answers.
 use Rattle.std.specs.Prelude.{◌≡◌, Bool, true, false, refl}
 use Rattle.std.proofs.Common.{sym, ◌∙◌}
 use Rattle.std.specs.Cmp.{IsEquivalence, IsPartialEquivalence, partial_equiv_from_equiv}
 use Rattle.ods_request.specs.Equal.{same_request, same_answer}
 use Rattle.ods_request.specs.RequestTests.{requests_decide, answers_decide}
 
--- two tests that are passed together are one
+-- two tests that pass for the same values are equal
 pub alike : (a b : Bool) → (a ≡ true → b ≡ true) → (b ≡ true → a ≡ true) → a ≡ b
 alike true b there back = sym (there refl)
 alike false true there back = back refl
 alike false false there back = refl
 
--- the test is passed just by equals
+-- the test passes exactly for equal values
 abbrev pub Decides : {A : Type 0} → (A → A → Bool) → Type 0
 Decides {A} same = (a b : A) → (same a b ≡ true → a ≡ b) × (a ≡ b → same a b ≡ true)
 

@@ -1,4 +1,4 @@
--- The first refusal that holds of a request, by the catalogue alone. The past is not looked at.
+-- The first refusal that holds for a request, by the catalogue only. The past has no effect.
 use Rattle.std.specs.Prelude.{◌≡◌, ℕ, Bool, not, ◌||◌, ◌==◌, nat_le, nat_lt, List, [], ◌∷◌, length, is_none, if◌then◌else◌, Option, Some, None}
 use Rattle.std.specs.FinMap as map
 use Rattle.ods_base.specs.declared.file_id.Uic.{Uic}
@@ -40,12 +40,12 @@ is_denied f who r = not (permits who f.owner f.protection r)
 abbrev pub lacks_block : File → ℕ → Bool
 lacks_block f vbn = (vbn == 0) || nat_lt (length (blocks_of f.body)) vbn
 
--- a name cannot be entered: that version is there, or there is none after the highest
+-- a name cannot be entered: the given version exists, or the highest version has no successor
 abbrev pub cannot_enter : NameMap → RadName → Option ℕ → List (Bool × Refusal)
 cannot_enter names name (Some v) = (map.contains_key names (key_of name v), refusal.NameTaken) ∷ []
 cannot_enter names name None = (nat_le 32767 (last_version names name), refusal.VersionsFull) ∷ []
 
--- the first refusal that holds of a request, or none: one table of conditions with their refusals for each request, in the order of the refusals
+-- the first refusal that holds for a request, or none: for each request a table of conditions with their refusals, in the order of the refusals
 unfoldable pub fault_of : Catalogue → Uic → Request → Option Refusal
 fault_of C who (Create name version blocks stamp) = first_of ((nat_lt 65535 blocks, refusal.BadCount) ∷ [])
 fault_of C who (Extend file blocks) = on_file (map.get C.files file) (λ f.
@@ -79,7 +79,7 @@ fault_of C who (SetUser file attributes) = on_file (map.get C.files file) (λ f.
     (is_reserved file, refusal.Reserved) ∷ (is_directory f.body, refusal.IsDirectory)
     ∷ (is_denied f who right.Write, refusal.Denied) ∷ [])
 
--- somebody may make this request
+-- some user may make this request
 pub record IsAllowed (C : Catalogue) (r : Request) : Type 0 where
   pub who : Uic
   pub allowed : fault_of C who r ≡ None

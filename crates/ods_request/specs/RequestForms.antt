@@ -1,10 +1,10 @@
--- How a compact request keeps its request.
+-- The forms of a compact request.
 use Rattle.ods_request.specs.declared.requests.Request.{Request}
 use Rattle.ods_request.specs.declared.requests.Request.TheVariants as request
 use Rattle.ods_request.specs.declared.compact_request.RequestForm.{RequestForm}
 use Rattle.ods_request.specs.declared.compact_request.RequestForm.TheVariants as form
 
--- the request that is kept
+-- the request that the form stores
 abbrev pub request_in : RequestForm → Request
 request_in (form.Create name version blocks stamp) = request.Create name version blocks stamp
 request_in (form.Extend file blocks) = request.Extend file blocks

@@ -1,4 +1,4 @@
--- The test of two requests, and that of two answers, decides whether they are equal.
+-- The tests of two requests, and of two answers, decide equality.
 use Rattle.std.proofs.Common.{◌≡◌, subst, true, arith}
 use Rattle.ods_request.specs.declared.requests.Request.{Request}
 use Rattle.ods_request.specs.declared.answers.Answer.{Answer}

@@ -1,4 +1,4 @@
--- Which rights a protection word grants to whom.
+-- The rights that a protection word grants to users.
 use Rattle.std.specs.Prelude.{ℕ, ◌+◌, Bool, true, ◌&&◌, ◌==◌, nat_le, List, [], ◌∷◌}
 use Rattle.std.specs.List.{list_any}
 use Rattle.std.specs.Int.{bit_at}
@@ -24,24 +24,24 @@ is_in_class Owner who owner = (who.group == owner.group) && (who.member == owner
 is_in_class Group who owner = who.group == owner.group
 is_in_class World who owner = true
 
--- where the four bits of a class begin in a protection word
+-- the first of the four bits of a class in a protection word
 abbrev pub first_bit : Class → ℕ
 first_bit System = 0
 first_bit Owner = 4
 first_bit Group = 8
 first_bit World = 12
 
--- the place of a right among the four bits
+-- the index of a right in the four bits
 abbrev pub right_bit : Right → ℕ
 right_bit Read = 0
 right_bit Write = 1
 right_bit Extend = 2
 right_bit Delete = 3
 
--- the bit of the right is clear in the bits of the class: a set bit denies
+-- the bit of the right is clear in the bits of the class, because a set bit denies
 abbrev pub grants_to : Class → ℕ → Right → Bool
 grants_to class protection right = bit_at protection (first_bit class + right_bit right) == 0
 
--- a class that the user is in grants the right
+-- a class of the user grants the right
 unfoldable pub permits : Uic → Uic → ℕ → Right → Bool
 permits who owner protection right = list_any (λ class. is_in_class class who owner && grants_to class protection right) classes

@@ -1,4 +1,4 @@
--- What each request is, in one table: a request that comes later is one row more.
+-- The facts about each kind of request, in one table. A new request is one more row.
 use Rattle.std.specs.Prelude.{ℕ, Bool, true, false, not, ◌&&◌, is_none, if◌then◌else◌, Option, Some, None}
 use Rattle.ods_base.specs.declared.file_id.FileId.{FileId}
 use Rattle.ods_request.specs.declared.requests.Request.{Request}
@@ -6,17 +6,17 @@ use Rattle.ods_request.specs.declared.requests.Request.TheVariants.{Create, Exte
 use Rattle.ods_request.specs.declared.answers.Answer.{Answer}
 use Rattle.ods_request.specs.Steps.{created_id}
 
--- what is said of a request
+-- the facts about a request
 pub record Row : Type 0 where
-  -- it makes a file
+  -- it creates a file
   pub makes : Bool
-  -- the file that it changes, of those that are there
+  -- the existing file that it changes
   pub changed : Option FileId
-  -- the version that it gives
+  -- the version that it specifies
   pub version : Option ℕ
-  -- blocks and numbers may be taken for it, or given back
+  -- it may allocate or free blocks and file numbers
   pub moves : Bool
-  -- it may be refused for want of memory
+  -- it may be refused with out of memory
   pub memory : Bool
 
 -- the table
@@ -34,7 +34,7 @@ row_of (Lines dir) = record { makes = false; changed = None; version = None; mov
 row_of (Stat file) = record { makes = false; changed = None; version = None; moves = false; memory = false }
 row_of (SetUser file attributes) = record { makes = false; changed = Some file; version = None; moves = false; memory = true }
 
--- the request makes a file
+-- the request creates a file
 abbrev pub creates : Request → Bool
 creates r = (row_of r).makes
 
@@ -42,18 +42,18 @@ creates r = (row_of r).makes
 abbrev pub only_looks : Request → Bool
 only_looks r = not (creates r) && is_none (row_of r).changed
 
--- the requests for which blocks may be taken or given back
+-- the requests that may allocate or free blocks
 abbrev pub moves_blocks : Request → Bool
 moves_blocks r = (row_of r).moves
 
--- the requests that may be refused for want of memory
+-- the requests that may be refused with out of memory
 abbrev pub takes_memory : Request → Bool
 takes_memory r = (row_of r).memory
 
--- the file that a step may change: the one that the request names first, or the one that is made
+-- the file that a step may change: the file that the request names first, or the created file
 abbrev pub changed_file : Request → Answer → Option FileId
 changed_file r a = if creates r then created_id a else (row_of r).changed
 
--- the version under which a file is made or entered, where the request gives one
+-- the version under which a file is created or entered, if the request specifies one
 abbrev pub given_version : Request → Option ℕ
 given_version r = (row_of r).version

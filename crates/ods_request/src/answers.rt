@@ -1,4 +1,4 @@
-//! What a request is answered, and the entry under which a list keeps an accepted request.
+//! The answers to requests, and the entries of accepted requests in a list.
 ghost use Rattle.std.specs.Prelude.{◌≡◌, ◌↔◌, IsTrue, IfOk, OnErr};
 ghost use Rattle.ods_request.specs.Lines.{HasLines};
 
@@ -23,21 +23,21 @@ impl Model for Listing {
 }
 
 impl Listing {
-    /// The listing of these lines. It takes no memory.
+    /// Makes a listing of these lines. It allocates no memory.
     pub fn new(lines: Vec<Listed>) -> Listing
         ensures { result ≡ lines.items }
     {
         Listing { names: lines }
     }
 
-    /// The lines.
+    /// Returns the lines.
     pub fn names(&self) -> &[Listed]
         ensures { result.now ≡ self.now }
     {
         self.names.as_slice()
     }
 
-    /// Gives the lines back. It takes no memory.
+    /// Returns the lines and drops the listing. It allocates no memory.
     pub fn into_names(self) -> Vec<Listed>
         ensures { result.items ≡ self }
     {
@@ -45,7 +45,7 @@ impl Listing {
         names
     }
 
-    /// An equal listing, in memory of its own.
+    /// Returns an equal listing, in memory of its own.
     pub fn copy(&self) -> Result<Listing, AllocError>
         ensures { IfOk result (λ copy. copy ≡ self.now) }
     {
@@ -73,67 +73,67 @@ impl Eq for Listing {
     ghost laws = { lines_equivalence };
 }
 
-/// What a file is, as `Stat` shows it.
+/// The kind of a file, as `Stat` returns it.
 #[derive(Clone, Copy, PartialEq, Eq, Debug)]
 pub enum Kind {
-    /// A file of this many blocks, with these 32 bytes of user attributes.
+    /// A plain file with `blocks` blocks, and its 32 bytes of user attributes.
     Plain { blocks: u32, attributes: [u8; 32] },
-    /// A directory with this many names.
+    /// A directory with `names` names.
     Directory { names: u32 },
     /// INDEXF.SYS or BITMAP.SYS.
     System,
 }
 
-/// What is shown of a file.
+/// The facts that `Stat` returns about a file.
 #[derive(Clone, Copy, PartialEq, Eq, Debug)]
 pub struct Stat {
     pub file: FileId,
-    /// The ident area of its header: its name, its dates and its revision.
+    /// The ident area of its header: its name, version, revision and dates.
     pub ident: [u8; 46],
     pub owner: Uic,
-    /// The protection word: sixteen bits, of which a set one denies.
+    /// The protection word: sixteen bits. A set bit denies.
     pub protection: u16,
-    /// The user's byte of the file's characteristics.
+    /// The user's byte of the characteristics.
     pub user_char: u8,
-    /// The system's byte of the file's characteristics.
+    /// The system's byte of the characteristics.
     pub system_char: u8,
     pub kind: Kind,
 }
 
-/// What an accepted request is answered.
+/// The answer to an accepted request.
 #[derive(Drop, Debug, PartialEq, Eq)]
 pub enum Answer {
     /// Create: the ID of the new file.
     Created(FileId),
-    /// Extend: how many blocks the file has now.
+    /// Extend: the new number of blocks of the file.
     Extended(u32),
-    /// Truncate: how many blocks the file has now.
+    /// Truncate: the new number of blocks of the file.
     Truncated(u32),
-    /// Delete, Write and SetUser.
+    /// Delete, Write and SetUser: no further data.
     Done,
     /// Enter: the version under which the file was entered.
     Entered(u16),
-    /// LookUp: the file and the version that were found.
+    /// LookUp: the file and the version.
     Found(FileId, u16),
-    /// Remove: the file and the version whose name is gone.
+    /// Remove: the file and the version of the removed name.
     Removed(FileId, u16),
     /// Read: the block.
     Bytes(Block),
-    /// List: the directory's lines.
+    /// List: the lines of the directory.
     Names(Listing),
-    /// Stat: what is shown of the file.
+    /// Stat: the facts about the file.
     Info(Stat),
 }
 
 impl Answer {
-    /// Whether the other answer is this one. It is what `==` says.
+    /// Returns whether the two answers are equal, as `==` does.
     pub fn is_same(&self, other: &Answer) -> bool
         ensures { IsTrue result ↔ (self.now ≡ other.now) }
     {
         self == other
     }
 
-    /// An equal answer. Only the lines of a directory take memory.
+    /// Returns an equal answer. Only the lines of a directory need memory.
     pub fn copy(&self) -> Result<Answer, AllocError>
         ensures ok { IfOk result (λ copy. copy ≡ self.now) }
         ensures err { OnErr result (HasLines self.now) }
@@ -159,19 +159,19 @@ impl Answer {
 /// An accepted request with its answer.
 #[derive(Drop, Debug, PartialEq, Eq)]
 pub struct Entry {
-    /// The session that asked.
+    /// The session that made the request.
     pub session: u16,
-    /// The number that its caller gave it; the program gives the line of its script.
+    /// The number that the caller assigned. The program assigns the line of its script.
     pub nth: u32,
-    /// The user for whom it asked.
+    /// The user of the request.
     pub who: Uic,
-    /// The request, in little room.
+    /// The request, in compact form.
     pub request: CompactRequest,
     pub answer: Answer,
 }
 
 impl Entry {
-    /// Whether the other entry is this one.
+    /// Returns whether the two entries are equal.
     pub fn is_same(&self, other: &Entry) -> bool
         ensures { IsTrue result ↔ (self.now ≡ other.now) }
     {

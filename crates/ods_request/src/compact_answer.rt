@@ -1,4 +1,4 @@
-//! Answers as replies and calls keep them: in place, but for a block and for what is shown of a file, which are in a box.
+//! Compact answers, as replies and calls store them. A block and the facts about a file are in a box.
 ghost use Rattle.std.specs.Prelude.{◌≡◌, ◌↔◌, ◌⊎◌, IsTrue, IfOk, OnErr, true};
 ghost use Rattle.ods_request.specs.{CompactAnswer.is_long, AnswerForms.answer_in, Lines.HasLines};
 
@@ -7,34 +7,34 @@ use ods_base::{Block, FileId};
 use std::alloc::{AllocError, Global};
 use std::marker::Model;
 
-/// An answer in little room: 32 bytes, and a box for a block or a stat alone. A contract sees the answer.
+/// A compact answer: 32 bytes, and a box only for a block or for the facts about a file. A contract sees the answer.
 #[derive(Drop, Debug)]
 pub struct CompactAnswer {
     form: AnswerForm,
 }
 
-/// How an answer is kept: as it is, with a block or a stat in a box.
+/// The form of a compact answer. A block and the facts about a file are in a box.
 #[derive(Drop, PartialEq, Eq, Debug)]
 pub enum AnswerForm {
     /// Create: the ID of the new file.
     Created(FileId),
-    /// Extend: how many blocks the file has now.
+    /// Extend: the new number of blocks of the file.
     Extended(u32),
-    /// Truncate: how many blocks the file has now.
+    /// Truncate: the new number of blocks of the file.
     Truncated(u32),
-    /// Delete, Write and SetUser.
+    /// Delete, Write and SetUser: no further data.
     Done,
     /// Enter: the version under which the file was entered.
     Entered(u16),
-    /// LookUp: the file and the version that were found.
+    /// LookUp: the file and the version.
     Found(FileId, u16),
-    /// Remove: the file and the version whose name is gone.
+    /// Remove: the file and the version of the removed name.
     Removed(FileId, u16),
     /// Read: the block, in a box.
     Bytes(Box<Block>),
-    /// List: the directory's lines.
+    /// List: the lines of the directory.
     Names(Listing),
-    /// Stat: what is shown of the file, in a box.
+    /// Stat: the facts about the file, in a box.
     Info(Box<Stat>),
 }
 
@@ -49,7 +49,8 @@ impl Model for CompactAnswer {
 }
 
 impl CompactAnswer {
-    /// The answer in little room. Only a block and a stat take memory; the lines of a directory are moved. After an error the answer is gone.
+    /// Makes a compact answer of an answer. Only a block and the facts about a file need memory; the lines of a directory are moved. After an error
+    /// the answer is lost.
     pub fn of(alloc: Global, answer: Answer) -> Result<CompactAnswer, AllocError>
         ensures ok { IfOk result (λ c. c ≡ answer) }
         ensures err { OnErr result (is_long answer ≡ true) }
@@ -69,7 +70,7 @@ impl CompactAnswer {
         Ok(CompactAnswer { form })
     }
 
-    /// An answer that stays where it is once more, in little room. Only a block, a stat and the lines of a directory take memory.
+    /// Makes a compact copy of an answer. Only a block, the facts about a file and the lines of a directory need memory.
     pub fn copy_of(alloc: Global, answer: &Answer) -> Result<CompactAnswer, AllocError>
         ensures ok { IfOk result (λ copy. copy ≡ answer.now) }
         ensures err { OnErr result ((is_long answer.now ≡ true) ⊎ HasLines answer.now) }
@@ -89,7 +90,7 @@ impl CompactAnswer {
         Ok(CompactAnswer { form })
     }
 
-    /// An equal answer, in memory of its own. Only a block, a stat and the lines of a directory take memory.
+    /// Returns an equal compact answer. Only a block, the facts about a file and the lines of a directory need memory.
     pub fn copy(&self, alloc: Global) -> Result<CompactAnswer, AllocError>
         ensures ok { IfOk result (λ copy. copy ≡ self.now) }
         ensures err { OnErr result ((is_long self.now ≡ true) ⊎ HasLines self.now) }
@@ -109,14 +110,14 @@ impl CompactAnswer {
         Ok(CompactAnswer { form })
     }
 
-    /// The form in which the answer is kept, to be read where it lies.
+    /// Returns the form of the answer, by reference.
     pub fn form(&self) -> &AnswerForm
         ensures { answer_in result.now ≡ self.now }
     {
         &self.form
     }
 
-    /// Whether this is the answer.
+    /// Returns whether the compact answer equals this answer.
     pub fn is(&self, answer: &Answer) -> bool
         ensures { IsTrue result ↔ (self.now ≡ answer.now) }
     {

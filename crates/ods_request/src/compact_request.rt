@@ -1,4 +1,4 @@
-//! Requests as lists keep them: in place, but for the block of a Write, which several may share.
+//! Compact requests, as lists store them. Several requests can share the block of a Write.
 ghost use Rattle.std.specs.Prelude.{◌≡◌, ◌↔◌, IsTrue, IfOk, OnErr, Some, true};
 ghost use Rattle.std.specs.Arc.{arc_value};
 ghost use Rattle.ods_request.specs.{CompactRequest.has_block, Queries.request_of, RequestForms.request_in};
@@ -10,29 +10,28 @@ use std::alloc::{AllocError, Global};
 use std::marker::Model;
 use std::sync::Arc;
 
-/// A request in little room: 40 bytes, and memory for the block of a Write alone, which equal requests
-/// may share. A contract sees the request.
+/// A compact request: 40 bytes, and memory only for the block of a Write. Equal requests can share this block. A contract sees the request.
 #[derive(Drop, Debug)]
 pub struct CompactRequest {
     form: RequestForm,
 }
 
-/// How a request is kept: as it is, with a block that may be shared.
+/// The form of a compact request. The block of a Write can be shared.
 #[derive(Drop, PartialEq, Eq, Debug)]
 pub enum RequestForm {
-    /// Makes a file of the user, of this many blocks of zeros, or a directory where the type is DIR.
+    /// Makes a file of the user with `blocks` blocks of zeros, or an empty directory if the type is DIR.
     Create {
         name: Name,
         version: u16,
         blocks: u32,
         stamp: Stamp,
     },
-    /// Puts this many blocks of zeros behind a file's own.
+    /// Appends `blocks` blocks of zeros to a file.
     Extend {
         file: FileId,
         blocks: u32,
     },
-    /// Keeps this many of a file's blocks, the first ones, and gives the others back.
+    /// Keeps the first `blocks` blocks of a file, and frees the others.
     Truncate {
         file: FileId,
         blocks: u32,
@@ -41,7 +40,7 @@ pub enum RequestForm {
     Delete {
         file: FileId,
     },
-    /// Enters a file in a directory, under the version given, or the highest of the name and one more, or 1.
+    /// Enters a file in a directory, under the given version, or otherwise the highest of the name plus one, or 1.
     Enter {
         dir: FileId,
         name: Name,
@@ -54,7 +53,7 @@ pub enum RequestForm {
         name: Name,
         pick: Pick,
     },
-    /// Takes a name out of a directory.
+    /// Removes a name from a directory.
     Remove {
         dir: FileId,
         name: Name,
@@ -75,11 +74,11 @@ pub enum RequestForm {
     List {
         dir: FileId,
     },
-    /// Shows what a file is.
+    /// Returns the facts about a file.
     Stat {
         file: FileId,
     },
-    /// Replaces a file's 32 bytes of user attributes.
+    /// Replaces the 32 bytes of user attributes of a file.
     SetUser {
         file: FileId,
         attributes: [u8; 32],
@@ -97,14 +96,14 @@ impl Model for CompactRequest {
 }
 
 impl CompactRequest {
-    /// The request that this form is of. It takes no memory.
+    /// Makes the compact request of this form. It allocates no memory.
     pub fn new(form: RequestForm) -> CompactRequest
         ensures { result ≡ request_in form }
     {
         CompactRequest { form }
     }
 
-    /// The request in little room. Only a Write takes memory.
+    /// Makes a compact copy of a request. Only a Write needs memory.
     pub fn of(alloc: Global, request: &Request) -> Result<CompactRequest, AllocError>
         ensures ok { IfOk result (λ c. c ≡ request.now) }
         ensures err { OnErr result (has_block request.now ≡ true) }
@@ -154,8 +153,8 @@ impl CompactRequest {
         Ok(CompactRequest { form })
     }
 
-    /// The same request once more; a Write's block is shared. It takes no memory, and fails only where
-    /// the block has as many owners as can be counted.
+    /// Returns an equal request, which shares the block of a Write. It allocates no memory. It fails only if the block has the most owners that can
+    /// be counted.
     pub fn share(&self) -> Result<CompactRequest, AllocError>
         ensures ok { IfOk result (λ c. c ≡ self.now) }
         ensures err { OnErr result (has_block self.now ≡ true) }
@@ -205,7 +204,7 @@ impl CompactRequest {
         Ok(CompactRequest { form })
     }
 
-    /// The request. It takes no memory.
+    /// Returns the request. It allocates no memory.
     pub fn get(&self) -> Request
         ensures { result ≡ self.now }
     {
@@ -269,7 +268,7 @@ impl CompactRequest {
         }
     }
 
-    /// The query that the request is, if it is one.
+    /// Returns the query that the request is, or `None` if it is not a query.
     pub fn as_query(&self) -> Option<Query>
         ensures { (q : Query) → (result ≡ Some q) ↔ (request_of q ≡ self.now) }
     {
@@ -288,14 +287,14 @@ impl CompactRequest {
         }
     }
 
-    /// Whether the other request is this one. It is what `==` says.
+    /// Returns whether the two requests are equal, as `==` does.
     pub fn is_same(&self, other: &CompactRequest) -> bool
         ensures { IsTrue result ↔ (self.now ≡ other.now) }
     {
         self == other
     }
 
-    /// Whether this is the request.
+    /// Returns whether the compact request equals this request.
     pub fn is(&self, request: &Request) -> bool
         ensures { IsTrue result ↔ (self.now ≡ request.now) }
     {

@@ -5,8 +5,7 @@ ghost use Rattle.ods_request.specs.Steps.{new_ident};
 use crate::Stamp;
 use ods_base::Name;
 
-/// The ident area of a new file: its name, type and version, revision 1, and the stamp as its dates of revision and
-/// creation.
+/// Returns the ident area of a new file: its name, type and version, revision 1, and the stamp as its dates of revision and creation.
 pub fn new_ident(name: &Name, version: u16, stamp: &Stamp) -> [u8; 46]
     ensures { result ≡ new_ident name.now version stamp.now }
 {

@@ -1,27 +1,27 @@
-//! Laws of the catalogue, over the definitions alone: each is the contract of a function with no body.
+//! Laws about the definitions of the catalogue. Each law is a function with an empty body.
 ghost use Rattle.ods_request.specs.Laws.{PastIsKept, ReplayGoesOn, LookingChangesNothing, RefusedHasNoStep, AnswerIsDetermined, AnswerIsStep, AnswersAgree, OtherFilesStay, CreatedIsNew, DefaultStays, EnteredIsFound, RemovedIsGone};
 
-/// A step never makes the past smaller.
+/// A step never removes an ID from the past.
 pub fn past_is_kept()
     ensures { PastIsKept }
 {}
 
-/// The replay of one entry more is that entry's step on the replay so far.
+/// The replay of a list with one more entry is the step of that entry on the replay of the list.
 pub fn replay_goes_on()
     ensures { ReplayGoesOn }
 {}
 
-/// After a look the catalogue is the one before.
+/// A query or listing leaves the catalogue unchanged.
 pub fn looking_changes_nothing()
     ensures { LookingChangesNothing }
 {}
 
-/// A request that is refused has no step.
+/// A refused request has no step.
 pub fn refused_has_no_step()
     ensures { RefusedHasNoStep }
 {}
 
-/// Every request but Create is answered in one way.
+/// Every request except Create has at most one answer.
 pub fn answer_is_determined()
     ensures { AnswerIsDetermined }
 {}
@@ -31,17 +31,17 @@ pub fn answer_is_step()
     ensures { AnswerIsStep }
 {}
 
-/// Two steps of one catalogue by one user and request have one answer and leave one catalogue, unless a file is made.
+/// Two steps of one catalogue by one user and request have equal answers and equal results, unless they make a file.
 pub fn answers_agree()
     ensures { AnswersAgree }
 {}
 
-/// A step changes no file but the one that the request names first, or makes.
+/// A step changes no file except the file that the request names first, or the file that it makes.
 pub fn other_files_stay()
     ensures { OtherFilesStay }
 {}
 
-/// A file is made under an ID that no file has or ever had.
+/// A new file has an ID that no file has or ever had.
 pub fn created_is_new()
     ensures { CreatedIsNew }
 {}
@@ -51,12 +51,12 @@ pub fn default_stays()
     ensures { DefaultStays }
 {}
 
-/// Whoever may read a directory finds in it the file that was just entered.
+/// After an Enter, each user who may read the directory finds the file.
 pub fn entered_is_found()
     ensures { EnteredIsFound }
 {}
 
-/// Whoever may read a directory no longer finds the name that was just removed.
+/// After a Remove, no user who may read the directory finds the name.
 pub fn removed_is_gone()
     ensures { RemovedIsGone }
 {}

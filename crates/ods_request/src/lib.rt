@@ -1,4 +1,4 @@
-//! Requests, their answers and refusals, the rights test, and what a request does to a catalogue.
+//! Requests, their answers and refusals, the check of access rights, and the effect of a request on a catalogue.
 #![tactic(auto)]
 
 mod answers;

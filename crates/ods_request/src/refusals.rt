@@ -1,34 +1,34 @@
-//! Refusals of requests, with the numbers and names under which they are printed.
+//! Refusals of requests, with their numbers and printed names.
 ghost use Rattle.ods_request.specs.Refusals.{refusal_row};
 
 use ods_base::{Coded, Row};
 use thiserror::Error;
 
-/// Why a request is refused. A refused request changes nothing.
+/// The reason why a request is refused. A refused request changes nothing.
 #[derive(Clone, Copy, PartialEq, Eq, Debug, Error)]
 pub enum Refusal {
-    /// The directory has no such name, or not in the version picked.
+    /// The directory does not have the name, or not the picked version.
     #[error("NoSuchName")]
     NoSuchName,
-    /// The directory has the name in the version given.
+    /// The directory already has the name in the given version.
     #[error("NameTaken")]
     NameTaken,
-    /// 32,767 is the highest version of the name, and none is given.
+    /// No version is given, and 32,767 is the highest version of the name.
     #[error("VersionsFull")]
     VersionsFull,
-    /// No file has the ID: its number and its sequence number.
+    /// No file has this ID, which is a number and a sequence number.
     #[error("NoSuchFile")]
     NoSuchFile,
-    /// Files 1 to 5 are never changed or deleted, and files 1 and 2 never read.
+    /// The request needs to extend, truncate, delete or write one of files 1 to 5 or to set its attributes, or to read file 1 or 2.
     #[error("Reserved")]
     Reserved,
-    /// A directory is wanted, and the file is another.
+    /// The request requires a directory, and the file is not one.
     #[error("NotADirectory")]
     NotADirectory,
     /// The file is a directory.
     #[error("IsDirectory")]
     IsDirectory,
-    /// More than 65,535 blocks are asked for, or a file is to grow by none.
+    /// A Create or an Extend of more than 65,535 blocks, an Extend of 0 blocks, or a Truncate to more blocks than the file has.
     #[error("BadCount")]
     BadCount,
     /// The protection word does not grant the right.
@@ -37,22 +37,22 @@ pub enum Refusal {
     /// The file has no block with this virtual block number.
     #[error("NoSuchBlock")]
     NoSuchBlock,
-    /// The directory has a name in it.
+    /// The directory still has names.
     #[error("NotEmpty")]
     NotEmpty,
-    /// The list has as many entries as its limit.
+    /// The number of entries of the list has reached its limit.
     #[error("ListFull")]
     ListFull,
-    /// The volume has fewer free blocks.
+    /// The volume has fewer free blocks than the request needs.
     #[error("VolumeFull")]
     VolumeFull,
-    /// The volume has fewer free file numbers.
+    /// The volume has fewer free file numbers than the request needs.
     #[error("HeadersFull")]
     HeadersFull,
     /// The file would have more than 256 headers.
     #[error("ChainFull")]
     ChainFull,
-    /// A growth of memory was refused.
+    /// The allocator refused memory.
     #[error("NoMemory")]
     NoMemory,
 }

@@ -1,35 +1,35 @@
-//! What a user asks of a volume.
+//! The requests of a user on a volume.
 ghost use Rattle.std.specs.Prelude.{◌≡◌, ◌↔◌, IsTrue, Some};
 ghost use Rattle.ods_request.specs.Queries.{request_of};
 
 use crate::stamps::Stamp;
 use ods_base::{Block, FileId, Name, Pick};
 
-/// A request. Each but Create names a file or a directory first.
+/// A request. Each request except Create names a file or a directory first.
 #[derive(Clone, Copy, PartialEq, Eq, Debug)]
 pub enum Request {
-    /// Makes a file of the user, of this many blocks of zeros, or a directory where the type is DIR. It is entered nowhere.
+    /// Makes a file of the user with `blocks` blocks of zeros, or an empty directory if the type is DIR. No directory has an entry for it.
     Create {
         name: Name,
         version: u16,
         blocks: u32,
         stamp: Stamp,
     },
-    /// Puts this many blocks of zeros behind a file's own.
+    /// Appends `blocks` blocks of zeros to a file.
     Extend {
         file: FileId,
         blocks: u32,
     },
-    /// Keeps this many of a file's blocks, the first ones, and gives the others back.
+    /// Keeps the first `blocks` blocks of a file, and frees the others.
     Truncate {
         file: FileId,
         blocks: u32,
     },
-    /// Deletes a file. Names of it stay where they are.
+    /// Deletes a file. Its names in directories remain.
     Delete {
         file: FileId,
     },
-    /// Enters a file in a directory, under the version given, or the highest of the name and one more, or 1.
+    /// Enters a file in a directory, under the given version, or otherwise the highest of the name plus one, or 1.
     Enter {
         dir: FileId,
         name: Name,
@@ -42,7 +42,7 @@ pub enum Request {
         name: Name,
         pick: Pick,
     },
-    /// Takes a name out of a directory. The file stays.
+    /// Removes a name from a directory. The file remains.
     Remove {
         dir: FileId,
         name: Name,
@@ -63,11 +63,11 @@ pub enum Request {
     List {
         dir: FileId,
     },
-    /// Shows what a file is.
+    /// Returns the facts about a file.
     Stat {
         file: FileId,
     },
-    /// Replaces a file's 32 bytes of user attributes.
+    /// Replaces the 32 bytes of user attributes of a file.
     SetUser {
         file: FileId,
         attributes: [u8; 32],
@@ -75,14 +75,14 @@ pub enum Request {
 }
 
 impl Request {
-    /// Whether the other request is this one. It is what `==` says.
+    /// Returns whether the two requests are equal, as `==` does.
     pub fn is_same(&self, other: &Request) -> bool
         ensures { IsTrue result ↔ (self.now ≡ other.now) }
     {
         self == other
     }
 
-    /// The query that the request is, if it is one.
+    /// Returns the query that the request is, or `None` if it is not a query.
     pub fn as_query(&self) -> Option<Query>
         ensures { (q : Query) → (result ≡ Some q) ↔ (request_of q ≡ self.now) }
     {
@@ -95,13 +95,13 @@ impl Request {
     }
 }
 
-/// A request that only looks, and takes no memory.
+/// A request that changes nothing and needs no memory.
 #[derive(Clone, Copy, PartialEq, Eq, Debug)]
 pub enum Query {
     /// Looks a name up in a directory.
     LookUp { dir: FileId, name: Name, pick: Pick },
     /// Reads the block with this virtual block number, counted from 1.
     Read { file: FileId, vbn: u32 },
-    /// Shows what a file is.
+    /// Returns the facts about a file.
     Stat { file: FileId },
 }

@@ -1,20 +1,20 @@
-//! Rights: what a file's protection word grants to a user.
+//! Access rights: the rights that a file's protection word grants to a user.
 ghost use Rattle.std.specs.Prelude.{◌≡◌, ◌+◌, ◌≤◌, ◌==◌};
 ghost use Rattle.std.specs.Int.{bit_at};
 ghost use Rattle.ods_request.specs.Rights.{permits as is_permitted, right_bit};
 
 use ods_base::Uic;
 
-/// What a user may be allowed to do with a file, in the order of the bits of one class.
+/// A right of a user to a file, in the order of the bits of one class.
 #[derive(Clone, Copy, PartialEq, Eq, Debug)]
 pub enum Right {
-    /// Read its blocks, or look up and list the names of a directory.
+    /// To read its blocks, or to look up and list the names of a directory.
     Read,
-    /// Write its blocks, set its user attributes, or enter and remove names of a directory.
+    /// To write its blocks, to set its user attributes, or to enter and remove names of a directory.
     Write,
-    /// Extend or truncate it.
+    /// To extend or truncate it.
     Extend,
-    /// Delete it.
+    /// To delete it.
     Delete,
 }
 
@@ -33,8 +33,8 @@ fn grants(protection: u16, first: u32, right: Right) -> bool
     (protection >> place) % 2 == 0
 }
 
-/// Whether a protection word grants a right to a user. It does where any class that the user is in has a clear bit: a system
-/// user (a group of at most 10 octal), the owner, the owner's group, the world.
+/// Returns whether a protection word grants a right to a user. The right is granted if at least one class of the user has a clear bit. The classes
+/// are the system (a group of at most 10 octal), the owner, the owner's group, and the world.
 #[tactic(auto, unfolding(crate::specs::Rights::permits))]
 pub fn permits(who: &Uic, owner: &Uic, protection: u16, right: Right) -> bool
     ensures { result ≡ is_permitted who.now owner.now protection right }

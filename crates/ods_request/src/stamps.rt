@@ -1,4 +1,4 @@
-//! Stamps: the date and time that a new file carries.
+//! Stamps: the date and time of a new file.
 ghost use Rattle.std.specs.Prelude.{◌≡◌, SomeIff, IsTrue};
 ghost use Rattle.std.specs.List.{list_all};
 ghost use Rattle.std.specs.Char.{is_ascii_digit};
@@ -6,8 +6,8 @@ ghost use Rattle.ods_request.specs.Stamps.{is_stamp, is_capital};
 
 use std::marker::Model;
 
-/// A date and time as thirteen characters, `DDMMMYYHHMMSS`: digits, but for the three capital letters of the month. No calendar
-/// is asked. A contract sees the characters.
+/// A date and time as thirteen characters, `DDMMMYYHHMMSS`. All are digits except the three capital letters of the month. The date is not checked
+/// against a calendar. A contract sees the characters.
 #[derive(Clone, Copy, PartialEq, Eq, Debug)]
 pub struct Stamp {
     text: [u8; 13],
@@ -41,7 +41,7 @@ fn all_capitals(text: &[u8]) -> bool
 }
 
 impl Stamp {
-    /// Reads a stamp: two digits, three capital letters, eight digits, and no more.
+    /// Parses a stamp: two digits, three capital letters, and eight digits. Returns `None` if the text is not a valid stamp.
     pub fn parse(text: &[u8]) -> Option<Stamp>
         ensures { SomeIff result (IsTrue (is_stamp text.now)) text.now }
     {
@@ -57,7 +57,7 @@ impl Stamp {
         }
     }
 
-    /// The characters.
+    /// Returns the characters.
     pub fn text(&self) -> &[u8; 13]
         ensures value { result.now ≡ self.now }
         ensures stamp { IsTrue (is_stamp self.now) }

@@ -1,4 +1,4 @@
--- Commands as their lines spell them: a value for each, and no place in memory.
+-- Commands as their lines spell them: a value for each, and no address in memory.
 use Rattle.std.specs.Prelude.{ℕ, List, Option}
 use Rattle.ods_base.specs.Name.{RadName}
 use Rattle.ods_base.specs.declared.file_id.Uic.{Uic}

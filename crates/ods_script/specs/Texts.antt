@@ -1,4 +1,4 @@
--- What is printed of a session: a line for each command, as its reply says.
+-- The printed text of a session: a line for each command, by its reply.
 use Rattle.std.specs.Prelude.{ℕ, ◌+◌, ◌-◌, ◌==◌, take, map, List, [], ◌∷◌, ◌++◌, length, codes}
 use Rattle.std.specs.List.{flat_map, suffix_len}
 use Rattle.std.specs.Fmt.{decimal}
@@ -31,16 +31,16 @@ use Rattle.ods_ask.specs.declared.script.Script.{Script}
 abbrev pub refusal_line : ℕ → List ℕ → List ℕ
 refusal_line number name = codes "NO " ++ decimal number ++ 32 ∷ name ++ 10 ∷ []
 
--- the bytes without the zeros at their end
+-- the bytes without their trailing zeros
 abbrev pub without_zeros : List ℕ → List ℕ
 without_zeros bytes = take (length bytes - suffix_len (λ b. b == 0) bytes) bytes
 
--- bytes in hex; where there is none, 00
+-- bytes in hex; if there are none, 00
 abbrev pub shown_bytes : List ℕ → List ℕ
 shown_bytes [] = codes "00"
 shown_bytes (b ∷ bytes) = encode_lower (b ∷ bytes)
 
--- a block in hex, without the zeros at its end; a block of zeros is 00
+-- a block in hex, without its trailing zeros; a block of zeros is 00
 abbrev pub block_text : List ℕ → List ℕ
 block_text block = shown_bytes (without_zeros block)
 
@@ -48,11 +48,11 @@ block_text block = shown_bytes (without_zeros block)
 abbrev pub found_text : FileId → RadName → ℕ → List ℕ
 found_text file name version = file_id_text file ++ 32 ∷ name_version_text name version
 
--- a line of a directory, behind a line feed: NAME;V n,s
+-- a line of a directory, after a line feed: NAME;V n,s
 abbrev pub listed_text : Listed → List ℕ
 listed_text l = 10 ∷ name_version_text l.name l.version ++ 32 ∷ file_id_text l.file
 
--- what a file is made of: PLAIN count attributes, DIRECTORY names or SYSTEM
+-- the kind of a file: PLAIN count attributes, DIRECTORY names or SYSTEM
 abbrev pub kind_text : Kind → List ℕ
 kind_text (kind.Plain blocks attributes) = codes "PLAIN " ++ decimal blocks ++ 32 ∷ encode_lower attributes
 kind_text (kind.Directory names) = codes "DIRECTORY " ++ decimal names
@@ -62,11 +62,11 @@ kind_text kind.System = codes "SYSTEM"
 abbrev pub stat_text : Stat → List ℕ
 stat_text s = file_id_text s.file ++ 32 ∷ ident_text s.ident ++ owner_text s.owner s.protection s.user_char s.system_char ++ 32 ∷ kind_text s.kind
 
--- the name of blanks, for what speaks of no name
+-- the name of blanks, for a command without a name
 abbrev pub no_name : RadName
 no_name = record { words = 0 ∷ 0 ∷ 0 ∷ []; ext = 0 }
 
--- the name that a request speaks of
+-- the name in a request
 abbrev pub asked_name : Ask → RadName
 asked_name (ask.Create name version blocks) = name
 asked_name (ask.Extend file blocks) = no_name
@@ -81,20 +81,20 @@ asked_name (ask.List dir) = no_name
 asked_name (ask.Stat file) = no_name
 asked_name (ask.SetUser file attributes) = no_name
 
--- the name that a VIEW speaks of
+-- the name in a VIEW
 abbrev pub looked_name : Look → RadName
 looked_name (look.LookUp dir name pick) = name
 looked_name (look.Read file vbn) = no_name
 looked_name (look.Stat file) = no_name
 
--- the name that a command speaks of
+-- the name in a command
 abbrev pub spoken_name : Action → RadName
 spoken_name (action.User who) = no_name
 spoken_name (action.Submit a) = asked_name a
 spoken_name (action.View l) = looked_name l
 spoken_name action.Bad = no_name
 
--- what stands behind OK: the answer to a command that speaks of this name
+-- the text after OK: the answer to a command with this name
 abbrev pub answer_text : RadName → Answer → List ℕ
 answer_text name (answer.Created id) = 32 ∷ file_id_text id
 answer_text name (answer.Extended count) = 32 ∷ decimal count
@@ -131,7 +131,7 @@ sessions_text k [] os = []
 sessions_text k (s ∷ ss) [] = []
 sessions_text k (s ∷ ss) (o ∷ os) = session_text k s o.replies.items ++ sessions_text (k + 1) ss os
 
--- the sessions from session k on, by their replies alone
+-- the sessions from session k on, by only their replies
 abbrev pub replied_text : ℕ → List Script → List (Vec Reply Global) → List ℕ
 replied_text k [] lists = []
 replied_text k (s ∷ ss) [] = []

@@ -11,7 +11,7 @@ use ods_base::{Listed, Name, print_name};
 use ods_request::{AnswerForm, CompactAnswer, Listing};
 use std::alloc::AllocError;
 
-/// Appends the answer to a command that speaks of this name, as it stands behind `OK`.
+/// Appends the answer to a command with this name, as it is printed after `OK`.
 pub(crate) fn push_answer(
     text: &mut String,
     name: &Name,

@@ -6,7 +6,7 @@ ghost use Rattle.ods_script.specs.Spelling.{IsHex};
 use crate::spelled::Spelled;
 use ods_base::Block;
 
-/// The bytes that a text spells: 1 to N, with zeros behind them.
+/// Reads 1 to N bytes in hex, padded with zeros to N. Any other text gives `None`.
 pub fn read_hex<const N: usize>(text: &[u8]) -> Option<[u8; N]>
     ensures { IsTheOne (IsHex N text.now) result }
 {

@@ -7,7 +7,7 @@ ghost use Rattle.ods_script.specs.Texts.{block_text, without_zeros};
 use ods_base::Block;
 use std::alloc::AllocError;
 
-/// Appends a block in hex, in lower case, without the zeros at its end; a block of zeros is `00`.
+/// Appends a block in hex, in lower case, without its trailing zeros. A block of zeros is `00`.
 pub(crate) fn push_block(text: &mut String, block: &Block) -> Result<(), AllocError>
     ensures { OnOk result (string_bytes text.new ≡ string_bytes text.old ++ block_text block.now) }
 {

@@ -1,4 +1,4 @@
-//! The command language: which command each line of a script is, and the text of each reply.
+//! The command language: the command of each line of a script, and the text of each reply.
 #![tactic(auto)]
 
 mod answers;

@@ -63,7 +63,7 @@ fn push_refusal(text: &mut String, number: u16, name: &str) -> Result<(), AllocE
     write!(text, "NO {number} {name}\n")
 }
 
-/// Appends the reply to a command, with its line feed.
+/// Appends the reply to a command, with its line feed. It fails only when out of memory.
 pub fn push_reply(text: &mut String, command: &Command, reply: &Reply) -> Result<(), AllocError>
     ensures { OnOk result (string_bytes text.new ≡ string_bytes text.old ++ reply_text command.now reply.now) }
 {
@@ -104,8 +104,8 @@ fn push_replies(
     Ok(())
 }
 
-/// What is printed of the sessions of these scripts, by the replies to each: for each, in order, the line `session k`, with k from 1, and
-/// its replies.
+/// Returns the printed text of the sessions of these scripts. For each session, in order, it has the line `session k`, with k from 1, and the
+/// replies. It fails only when out of memory.
 pub fn sessions_text(
     alloc: Global,
     scripts: &[Script],

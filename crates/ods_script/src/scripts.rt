@@ -1,4 +1,4 @@
-//! Which commands a script is.
+//! The commands of a script.
 ghost use Rattle.std.specs.Prelude.{◌≡◌, ◌<◌, ◌^◌, length, IfOk, OnOk};
 ghost use Rattle.ods_ask.specs.Asked.{CanBeRun};
 ghost use Rattle.ods_script.specs.Numbered.{AreCommandsOf, Takes};
@@ -8,8 +8,8 @@ use ods_ask::{Command, Script};
 use ods_text::cut_at;
 use std::alloc::{AllocError, Global};
 
-/// The commands of a script: one for each line that is not empty, in order, with its number from 1. A line that spells no command is
-/// `Bad`. The last line may lack its line feed. The error is for memory.
+/// Parses a script into its commands: one for each line that is not empty, in order, with its line number from 1. A line that is not a valid command
+/// is `Bad`. The last line may lack its line feed. It fails only when out of memory.
 pub fn parse_script(alloc: Global, text: &[u8]) -> Result<Script, AllocError>
     requires { length text.now < 2 ^ 31 }
     ensures commands { IfOk result (λ s. AreCommandsOf text.now s.commands.items) }

@@ -1,4 +1,4 @@
-//! What STAT shows of a file, as a reply prints it.
+//! The facts of a file, as the reply to STAT prints them.
 ghost use Rattle.std.specs.Prelude.{◌≡◌, ◌++◌, ◌∷◌, OnOk};
 ghost use Rattle.std.specs.String.{string_bytes};
 ghost use Rattle.ods_header.specs.Text.{file_id_text};
@@ -10,7 +10,7 @@ use ods_header::{print_ident, push_owner};
 use ods_request::{Kind, Stat};
 use std::alloc::AllocError;
 
-/// Appends what is shown of a file, behind a space.
+/// Appends the facts of a file, after a space.
 pub(crate) fn push_stat(text: &mut String, stat: &Stat) -> Result<(), AllocError>
     ensures { OnOk result (string_bytes text.new ≡ string_bytes text.old ++ 32 ∷ stat_text stat.now) }
 {
@@ -25,7 +25,7 @@ pub(crate) fn push_stat(text: &mut String, stat: &Stat) -> Result<(), AllocError
     push_kind(text, &stat.kind)
 }
 
-/// Appends a file's ID and a name, each behind a space.
+/// Appends a file's ID and a name, each after a space.
 pub(crate) fn push_file(text: &mut String, file: FileId, name: &str) -> Result<(), AllocError>
     ensures { OnOk result (string_bytes text.new ≡ string_bytes text.old ++ 32 ∷ file_id_text file ++ 32 ∷ name.now) }
 {

@@ -1,4 +1,4 @@
-//! The verbs: the word that each is written as, and what may stand behind it.
+//! The verbs: the word of each, and the words that may follow it.
 ghost use Rattle.std.specs.Prelude.{◌≡◌, MatchOption, Some, None, IfOk};
 ghost use Rattle.ods_script.specs.declared.verbs.Verb.TheVariants.{Write as the_write};
 ghost use Rattle.ods_text.specs.One.{IsTheOne};
@@ -15,13 +15,13 @@ use std::sync::Arc;
 /// The word that a command begins with.
 #[derive(Clone, Copy, Debug, PartialEq, Eq)]
 pub enum Verb {
-    /// `USER`: sets the user that asks from here on.
+    /// `USER`: sets the user of the next commands.
     User,
     /// `CREATE`: makes a file.
     Create,
-    /// `EXTEND`: gives a file more blocks.
+    /// `EXTEND`: adds blocks to a file.
     Extend,
-    /// `TRUNCATE`: takes the last blocks of a file away.
+    /// `TRUNCATE`: removes the last blocks of a file.
     Truncate,
     /// `DELETE`: deletes a file.
     Delete,
@@ -37,11 +37,11 @@ pub enum Verb {
     Write,
     /// `LIST`: lists the names in a directory.
     List,
-    /// `STAT`: shows what a file's header says.
+    /// `STAT`: prints the facts of a file's header.
     Stat,
     /// `SETUSER`: sets the 32 bytes of user attributes of a file.
     SetUser,
-    /// `VIEW`: asks a query of a view of the volume, by LOOK, READ or STAT.
+    /// `VIEW`: queries a view of the volume, by LOOK, READ or STAT.
     View,
 }
 
@@ -68,7 +68,7 @@ fn read_verb(word: &[u8]) -> Option<Verb>
     }
 }
 
-/// The verb that a text begins with, and the words behind it.
+/// Splits a text into its verb and the words after it.
 pub(crate) fn split_verb(text: &[u8]) -> Option<(Verb, &[u8])>
     ensures { MatchOption result (IsTheOne (IsSplit text.now) None) (λ x. IsTheOne (IsSplit text.now) (Some (x.0, x.1.now))) }
 {
@@ -77,7 +77,7 @@ pub(crate) fn split_verb(text: &[u8]) -> Option<(Verb, &[u8])>
     Some((verb, args))
 }
 
-/// What the words behind a verb command: a row for each verb. The error is for memory.
+/// Returns the action of the words after a verb: a row for each verb. It fails only when out of memory.
 pub(crate) fn read_behind(alloc: Global, verb: Verb, args: &[u8]) -> Result<Action, AllocError>
     ensures { IfOk result (λ a. IsTheOne (Behind verb args.now) (said a)) }
 {

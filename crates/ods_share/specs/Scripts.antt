@@ -1,4 +1,4 @@
--- What a script means: which replies and calls come of its commands.
+-- The meaning of a script: the replies and calls of its commands.
 use Rattle.std.specs.Prelude.{◌≡◌, ℕ, ◌<◌, Bool, true, false, List, [], ◌∷◌, ◌++◌, length, Option, Some, None, slice_index_or, Result, Ok, Err}
 use Rattle.std.specs.List.{list_any, sum_by}
 use Rattle.ods_base.specs.declared.file_id.Uic.{Uic}
@@ -25,7 +25,7 @@ use Rattle.ods_ask.specs.declared.outcome.Reply.TheVariants as reply
 use Rattle.ods_ask.specs.declared.outcome.Call.{Call}
 use Rattle.ods_ask.specs.declared.outcome.Outcome.{Outcome}
 
--- a session so far: the user in force, what `$` stands for, the accepted calls, and the entries that its last view has seen
+-- a session so far: the user in force, the value of `$`, the accepted calls, and the entries that its last view has seen
 pub record Sitting : Type 0 where
   pub who : Uic
   pub last : Option FileId
@@ -43,14 +43,13 @@ pub record IsRefused (M : List (List ℕ)) (who : Uic) (q : Request) (f : Refusa
   pub lawful : IsLawful volume
   pub reason : IsDeskReason volume who q f
 
--- What a view of this user is answered from: a list that begins with what was seen before, and leads from the mounted image M to a
--- catalogue that answers so.
+-- The list that a view of this user reads: it begins with the entries seen before, has a replay from the mounted image M, and gives this result.
 pub record IsSeen (M : List (List ℕ)) (before : List Entry) (who : Uic) (q : Query) (answer : Result Answer Refusal) (after : List Entry) : Type 0 where
   pub later : Begins before after
   pub leads : LeadsOn M after
   pub answers : AnswersBy M after who q answer
 
--- Where `$` stands for no file it is BAD. Else it is an accepted call, with the answer of the reply, or a refusal, which is no call.
+-- If `$` stands for no file the reply is BAD. Otherwise it is an accepted call, with the answer of the reply, or a refusal, which is not a call.
 abbrev pub Submits : List (List ℕ) → Sitting → ℕ → Option Request → Reply → Sitting → Type 0
 Submits M s nth None r t = (r ≡ reply.Bad) × (t ≡ s)
 Submits M s nth (Some q) (reply.Got a) t = t ≡ record { who = s.who; last = last_after s.last a; calls = s.calls ++ call_of nth s.who q a ∷ []; seen = s.seen }
@@ -59,7 +58,7 @@ Submits M s nth (Some q) reply.User t = ⊥
 Submits M s nth (Some q) reply.Closed t = ⊥
 Submits M s nth (Some q) reply.Bad t = ⊥
 
--- Where `$` stands for no file it is BAD. Else it is an answer, which `$` follows as after a request, a refusal, or Closed. It is no call.
+-- If `$` stands for no file the reply is BAD. Otherwise it is an answer, which sets `$` as after a request, a refusal, or Closed. It is not a call.
 abbrev pub Views : List (List ℕ) → Sitting → Option Query → Reply → Sitting → Type 0
 Views M s None r t = (r ≡ reply.Bad) × (t ≡ s)
 Views M s (Some q) (reply.Got a) t = IsSeen M s.seen s.who q (Ok a) t.seen × (t ≡ record { who = s.who; last = last_after s.last a; calls = s.calls; seen = t.seen })
@@ -82,14 +81,14 @@ Runs M stamp s [] (r ∷ rs) t = ⊥
 Runs M stamp s (c ∷ cs) [] t = ⊥
 Runs M stamp s (c ∷ cs) (r ∷ rs) t = (u : Sitting) × Tells M stamp s c.nth c.action r u × Runs M stamp u cs rs t
 
--- whether a command looks beside the lock
+-- whether a command reads without the lock
 abbrev pub is_view : Action → Bool
 is_view (action.View look) = true
 is_view (action.User who) = false
 is_view (action.Submit a) = false
 is_view action.Bad = false
 
--- whether one of these commands does
+-- whether one of these commands reads without the lock
 abbrev pub looks_beside : List Command → Bool
 looks_beside cs = list_any (λ c. is_view c.action) cs
 
@@ -97,24 +96,24 @@ looks_beside cs = list_any (λ c. is_view c.action) cs
 abbrev pub start : List Entry → Sitting
 start seen = record { who = record { group = 1; member = 1 }; last = None; calls = []; seen = seen }
 
--- how often a reply says that the list is full
+-- 1 if the reply is that the list is full, otherwise 0
 abbrev pub fulls_in : Reply → ℕ
 fulls_in (reply.No refusal.ListFull) = 1
 fulls_in r = 0
 
--- and replies
+-- the number of such replies
 abbrev pub fulls_of : List Reply → ℕ
 fulls_of rs = sum_by fulls_in rs
 
--- What comes of a script, where its viewer had seen this list: one reply for each command, and just the accepted calls. A reply says that the
--- list is full only where the list was filled.
+-- The outcome of a script whose viewer had seen this list: one reply for each command, and exactly the accepted calls. The reply that the list is
+-- full comes only if the list was filled.
 pub record IsOutcome (M : List (List ℕ)) (stamp : List ℕ) (seen : List Entry) (filled : Type 0) (cs : List Command) (o : Outcome) : Type 0 where
   pub last : Sitting
   pub runs : Runs M stamp (start seen) cs o.replies.items last
   pub calls : o.calls.items ≡ last.calls
   pub full : 0 < fulls_of o.replies.items → filled
 
--- what the viewer of script k has seen, of as many viewers as scripts
+-- the list that the viewer of script k has seen, if there are as many viewers as scripts
 abbrev pub seen_first : List Viewed → ℕ → List Entry
 seen_first viewers k = (slice_index_or viewers k (newly [])).seen
 

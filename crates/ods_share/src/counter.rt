@@ -1,4 +1,4 @@
-//! The desk of a run, with the count of how often it says that its list is full.
+//! The desk of a run, with the number of refusals because its list is full.
 ghost use Rattle.std.specs.Prelude.{◌≡◌, ◌+◌, ◌<◌, length, IfErr, OnOk};
 ghost use Rattle.ods_request.specs.Lists.{Begins};
 ghost use Rattle.ods_state.specs.{Version.IsLawful, Outcome.CanBeAsked};
@@ -14,8 +14,8 @@ use std::marker::Model;
 use std::sync::Wait;
 use std::sync::ledger::{Book, Ledger, Share};
 
-/// A desk, with the count of the requests that it refused because its list is full. Each session has a share in the count, so a session that was refused so
-/// knows afterwards that the list was filled. The count takes no bytes: contracts alone see it.
+/// A desk, with the number of requests that it refused because its list is full. Each session has a share in the count, so a session with such a
+/// refusal knows afterwards that the list was filled. The count takes no bytes: only contracts see it.
 pub(crate) struct Counter<J: Naming, L: Ledger> {
     desk: Desk<J>,
     fulls: Book<L>,
@@ -45,7 +45,7 @@ fn count<L: Ledger>(fulls: &mut Book<L>, mine: &mut Share<L>, refusal: Refusal)
 }
 
 impl<J: Naming, L: Ledger> Counter<J, L> {
-    /// This desk, which has refused nothing yet.
+    /// Returns the counter of this desk, which has refused nothing yet.
     pub(crate) fn new(desk: Desk<J>, fulls: Book<L>) -> Counter<J, L>
         requires { fulls.total ≡ 0 }
         ensures { result ≡ desk }
@@ -53,7 +53,7 @@ impl<J: Naming, L: Ledger> Counter<J, L> {
         Counter { desk, fulls }
     }
 
-    /// Makes a request of the desk, and counts it where it is refused because the list is full.
+    /// Submits a request to the desk, and counts a refusal because the list is full.
     pub(crate) fn submit<R: Wait>(
         &mut self,
         rt: &R,
@@ -81,8 +81,8 @@ impl<J: Naming, L: Ledger> Counter<J, L> {
         }
     }
 
-    /// Gives the volume back, with the count. It is lawful, over the image that was mounted, with the limit that it had, and its list begins as it
-    /// was. Where a refusal was counted, the list is full.
+    /// Returns the volume, with the count. The volume is lawful, over the image that was mounted, with its former limit. Its list begins with its
+    /// former entries. If a refusal was counted, the list is full.
     pub(crate) fn close<R: Wait>(self, rt: &R) -> (Volume, Book<L>)
         ensures mounted { result.0.mounted ≡ J.mounted }
         ensures opening { Begins J.opening result.0.entries }

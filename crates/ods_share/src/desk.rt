@@ -1,5 +1,5 @@
-//! The desk: a volume for a lock, and the writer that shows its versions. Its type names the image, the list that it
-//! began with and the limit of that list, so contracts know them under the lock.
+//! The desk: a volume for a lock, and the writer that shows its versions. Its type names the image, the opening list and the limit of that list, so
+//! contracts know them under the lock.
 ghost use Rattle.std.specs.Prelude.{◌≡◌, ◌<◌, ◌≤◌, All, length, vec_len, IfOk, IfErr, IsErr, OnErr, Err, Some, None};
 ghost use Rattle.ods_request.specs.{declared.refusals.Refusal.Refusal, Catalogue.Catalogue, Faults.fault_of, Lists.Begins};
 ghost use Rattle.ods_state.specs.{Version.IsPresent, Version.IsLawful, Wants.Lacks, Outcome.Accepts, Outcome.CanBeAsked, Outcome.IsLawfulPlan, Outcome.entry_of};
@@ -19,10 +19,11 @@ use std::mem;
 use std::snapshot::Snapshot;
 use std::sync::Wait;
 
-/// A volume for several sessions, which is to lie under a lock, with the writer that shows its versions to viewers beside the lock.
-/// Contracts see the volume, which is lawful whenever the lock is free. Wherever the desk lies, its mounted image and its limit are
-/// those of its name. Its list begins with the entries of its name. Viewers are shown the volume's list and blocks. [`Desk::close`] ends
-/// a desk, and nothing else lets one go. While the lock is free no change is pending. A desk that nobody looks at has no writer.
+/// A volume for several sessions, to be put under a lock, with the writer that shows its versions to viewers outside the lock.
+///
+/// Contracts see the volume, which is lawful whenever the lock is free. Its mounted image and its limit are always those of the desk's name, and its
+/// list begins with the entries of the name. Viewers see the volume's list and blocks. Only [`Desk::close`] ends a desk. While the lock is free no
+/// change is pending. A desk without viewers has no writer.
 pub struct Desk<J: Naming> {
     volume: Volume,
     writer: Option<DeskWriter<J>>,
@@ -41,8 +42,8 @@ impl<J: Naming> Model for Desk<J> {
 }
 
 impl<J: Naming> Desk<J> {
-    /// The desk of this volume, for 1 to [`MOST_SESSIONS`] places, and a viewer for each place, which has seen the volume's list. After an
-    /// error, which is for memory, the volume comes back.
+    /// Returns the desk of this volume, for 1 to [`MOST_SESSIONS`] places, and a viewer for each place, which has seen the volume's list. When out of
+    /// memory, it returns the volume with the error.
     pub fn new<R: Wait>(
         rt: &R,
         alloc: Global,
@@ -77,8 +78,8 @@ impl<J: Naming> Desk<J> {
         }
     }
 
-    /// The desk of this volume for a run in which nobody looks, with a viewer for each place, which answers Closed. It keeps no version, so a change is
-    /// made once. After an error, which is for memory, the volume comes back.
+    /// Returns the desk of this volume for a run in which no session looks, with a viewer for each place. Such a viewer replies Closed. The desk
+    /// keeps no version, so a change is made only once. When out of memory, it returns the volume with the error.
     pub(crate) fn without_views(
         alloc: Global,
         volume: Volume,
@@ -103,14 +104,14 @@ impl<J: Naming> Desk<J> {
         }
     }
 
-    /// The volume as it is now.
+    /// Returns the volume as it is now.
     pub fn volume(&self) -> &Volume
         ensures { result.now ≡ self.now }
     {
         &self.volume
     }
 
-    /// What is true of each desk: its volume is lawful, over the image of its name and with the limit of its name.
+    /// Each desk has a lawful volume, over the image of its name and with the limit of its name.
     pub(crate) fn is_of_its_name(&self)
         ensures mounted { self.now.mounted ≡ J.mounted }
         ensures limit { self.now.limit ≡ J.limit }
@@ -119,9 +120,9 @@ impl<J: Naming> Desk<J> {
         self.volume.is_lawful();
     }
 
-    /// Makes a request of the volume, for a session, as a user, under a number of the caller's. It is answered, entered into the list, and
-    /// the version to which it leads is shown; or it is refused with nothing changed and nothing shown. The list as it stands afterwards is
-    /// told in both cases. Any request may want memory, after its faults.
+    /// Submits a request to the volume, for a session, as a user, under a number of the caller. An accepted request is entered into the list, and the
+    /// resulting version is shown. A refused request changes and shows nothing. In both cases the list after the request is returned too. Any request
+    /// may be refused with NoMemory, after its other faults.
     pub fn submit<R: Wait>(
         &mut self,
         rt: &R,
@@ -153,9 +154,8 @@ impl<J: Naming> Desk<J> {
         }
     }
 
-    /// Makes a request as [`Desk::submit`] does. The list shares a Write's block with the request that
-    /// is given, and the answer comes in little room. Each clause of `submit` holds of the request that the compact one stands for. What the answer takes of
-    /// memory is taken before the volume changes.
+    /// Submits a request as [`Desk::submit`] does. The list shares the block of a Write with the given request, and the answer is compact. Each
+    /// clause of `submit` holds for the request that the compact one represents. The memory of the answer is taken before the volume changes.
     pub fn submit_shared<R: Wait>(
         &mut self,
         rt: &R,
@@ -256,8 +256,8 @@ impl<J: Naming> Desk<J> {
         Told::of(&self.volume)
     }
 
-    /// Gives the volume back, and shows nothing from now on. It is lawful, over the image that was mounted, with the limit that it had, and
-    /// its list begins as it was at [`Desk::new`].
+    /// Returns the volume, and stops showing versions. The volume is lawful, over the image that was mounted, with its former limit. Its list begins
+    /// with the list at [`Desk::new`].
     pub fn close<R: Wait>(self, rt: &R) -> Volume
         ensures volume { result ≡ self }
         ensures mounted { result.mounted ≡ J.mounted }

@@ -1,14 +1,14 @@
-//! Why a run or a settlement fails, with the numbers and names under which faults are printed.
+//! The reasons why a run or a settlement fails, with the numbers and names under which faults are printed.
 ghost use Rattle.std.specs.Prelude.{◌≡◌};
 ghost use Rattle.ods_share.specs.Refusals.{run_row, settle_row};
 
 use ods_base::{Coded, Row};
 use thiserror::Error;
 
-/// Why sessions did not run to their ends. The volume is given up then.
+/// The reason why sessions did not run to their ends. The volume is then dropped.
 #[derive(Clone, Copy, PartialEq, Eq, Debug, Error)]
 pub enum RunFault {
-    /// A growth of memory was refused.
+    /// The run is out of memory.
     #[error("NoMemory")]
     NoMemory,
     /// A thread could not be started.
@@ -27,13 +27,13 @@ impl Coded for RunFault {
     ghost row_of = { run_row };
 }
 
-/// Why a volume's list is not settled.
+/// The reason why the settlement of a volume's list fails.
 #[derive(Clone, Copy, PartialEq, Eq, Debug, Error)]
 pub enum SettleFault {
-    /// The list is not that of the sessions' calls, or another image was mounted.
+    /// The list does not consist of the sessions' calls, or another image was mounted.
     #[error("Unmatched")]
     Unmatched,
-    /// A growth of memory was refused. The list is settled.
+    /// The settlement is out of memory for its report. The list is settled.
     #[error("NoMemory")]
     NoMemory,
 }

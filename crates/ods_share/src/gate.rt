@@ -1,15 +1,14 @@
-//! Gates: calls round each command, in which a test can keep a session waiting.
+//! Gates: calls around each command, in which a test can delay a session.
 
-/// What a session calls round each of its commands, with its own number, from 1, and that of the command. It returns nothing, so a
-/// session goes on when it returns. No contract asks anything of these calls but that they end. Tests show that a
-/// session makes them.
+/// The calls that a session makes around each of its commands. The arguments are its own number, from 1, and the number of the command. A call
+/// returns nothing, and the session continues when it returns. Contracts require only that the calls end. Tests show that a session makes them.
 pub trait Gate {
-    /// Before each command, without the lock.
+    /// Runs before each command, without the lock.
     fn before(&self, session: u16, nth: u32);
 
-    /// Under the lock, just before a request is made of the desk.
+    /// Runs under the lock, just before a request is submitted to the desk.
     fn held(&self, session: u16, nth: u32);
 
-    /// After each command, without the lock.
+    /// Runs after each command, without the lock.
     fn after(&self, session: u16, nth: u32);
 }

@@ -1,4 +1,4 @@
-//! What a session keeps of the replies to its commands: the replies themselves, or what a caller makes of each.
+//! What a session keeps of the replies to its commands: the replies themselves, or what a caller derives from each.
 ghost use Rattle.std.specs.Prelude.{◌≡◌, ◌≤◌, [], IfOk, length, map};
 ghost use Rattle.std.specs.Vec.{vec_capacity};
 ghost use Rattle.ods_share.specs.Sittings.{room_for};
@@ -7,20 +7,20 @@ ghost use Rattle.ods_share.specs.Keeping.{outcome_of};
 use ods_ask::{Action, Call, Command, Outcome, Reply};
 use std::alloc::{AllocError, Global};
 
-/// What a session keeps of the replies to the commands of its script.
+/// A store for what a session keeps of the replies to the commands of its script.
 pub trait Keep: Drop {
     ghost use Rattle.std.specs.Prelude.{List, [], ◌∷◌, ◌++◌, IfOk, OnOk};
     ghost use Rattle.ods_ask.specs.declared.script.Command.{Command};
     ghost use Rattle.ods_ask.specs.declared.outcome.Reply.{Reply};
 
-    /// What is kept after these commands, each with its reply.
+    /// The relation of the kept value to these commands and their replies.
     ghost keeps: { List Command → List Reply → Self → Type 0 };
 
-    /// What is kept before the first command of a script.
+    /// Returns the kept value before the first command of a script. It fails only when out of memory.
     fn begin(alloc: Global, script: &[Command]) -> Result<Self, AllocError>
         ensures { IfOk result (λ kept. keeps [] [] kept) };
 
-    /// Keeps the reply to the next command.
+    /// Keeps the reply to the next command. It fails only when out of memory.
     fn keep(&mut self, command: &Command, reply: Reply) -> Result<(), AllocError>
         ensures { (cs : List Command) (rs : List Reply) → keeps cs rs self.old → OnOk result (keeps (cs ++ command.now ∷ []) (rs ++ reply ∷ []) self.new) };
 }
@@ -43,7 +43,7 @@ impl Keep for Vec<Reply> {
     }
 }
 
-/// What comes of a session: its accepted requests in order, and what is kept of its replies.
+/// The result of a session: its accepted requests in order, and what is kept of its replies.
 #[derive(Drop)]
 pub struct Ended<K> {
     pub calls: Vec<Call>,
@@ -64,7 +64,7 @@ fn submit_count(script: &[Command]) -> usize
     count
 }
 
-/// Nothing yet, with room for all calls that may come of a script.
+/// Returns an empty result, with room for all calls that a script can produce.
 pub(crate) fn reserve<K: Keep>(alloc: Global, script: &[Command]) -> Result<Ended<K>, AllocError>
     ensures calls { IfOk result (λ e. e.calls.items ≡ []) }
     ensures room { IfOk result (λ e. room_for script.now ≤ vec_capacity e.calls) }
@@ -75,7 +75,7 @@ pub(crate) fn reserve<K: Keep>(alloc: Global, script: &[Command]) -> Result<Ende
     Ok(Ended { calls, kept })
 }
 
-/// What came of each script, where the replies themselves were kept.
+/// Returns the outcome of each script, if the replies themselves were kept.
 pub(crate) fn outcomes(
     alloc: Global,
     ended: Vec<Ended<Vec<Reply>>>,

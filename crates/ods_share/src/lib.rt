@@ -1,4 +1,4 @@
-//! A volume that sessions share: the desk that lies under the lock, sessions in threads of their own, and the settlement.
+//! A volume that sessions share: the desk under the lock, sessions in threads of their own, and the settlement.
 #![tactic(auto)]
 
 mod counter;

@@ -1,4 +1,4 @@
-//! All sessions: they run at one desk, and the volume comes back from it.
+//! All sessions: they run at one desk, and the desk returns the volume.
 ghost use Rattle.std.specs.Prelude.{◌≡◌, ◌≤◌, All, length, map, Ok, vec_len, IfOk};
 ghost use Rattle.std.specs.List.{list_any};
 ghost use Rattle.ods_request.specs.Lists.{Begins};
@@ -127,14 +127,15 @@ fn run_desk<K: Keep + Send, J: Naming + Send + Sync, G: Gate + Sync, R: Threads 
     run_counted::<K, J, Brand, G, R>(rt, alloc, desk, viewers, blank, scripts, stamp, gate)
 }
 
-/// Runs each of at most [`MOST_SESSIONS`] scripts as a session in a thread of its own, the first as session 1 and with the first viewer. It
-/// waits for all, and gives the volume back with what came of each script, in their order. Files are made with this stamp. After a fault, of
-/// memory or of threads, all threads have ended too, and the volume is given up. An outcome has one reply for each command, in
-/// order. Its calls are just the requests that were answered, each once and in order. That the list is full is the reply only
-/// where the list that comes back has as many entries as its limit. BAD is the reply just to a line
-/// that is no command, and where `$` stands for no file. A query beside the lock is no call. The first VIEW of a session shows a
-/// list that begins with what its viewer had seen. The volume that comes back is over the same mounted image, has the same
-/// limit, and its list begins as it was.
+/// Runs each of at most [`MOST_SESSIONS`] scripts as a session in a thread of its own, the first as session 1 and with the first viewer. It waits for
+/// all sessions, and returns the volume with the outcome of each script, in the order of the scripts. New files have this stamp. After a fault, of
+/// memory or of threads, all threads have ended too, and the volume is dropped.
+///
+/// An outcome has one reply for each command, in order. Its calls are exactly the accepted requests, each once and in order. The reply that the list
+/// is full comes only if the list of the returned volume has as many entries as its limit. The reply BAD comes exactly to a line that is not a
+/// valid command, and to a command whose `$` stands for no file. A query without the lock is not a call. The first VIEW of a session shows a list that
+/// begins with the entries that its viewer had seen. The returned volume is over the same mounted image and has the same limit, and its list begins
+/// with its former entries.
 pub fn run_sessions<J: Naming + Send + Sync, G: Gate + Sync, R: Threads + Wait + Sync>(
     rt: &R,
     alloc: Global,
@@ -243,9 +244,9 @@ fn run_named<K: Keep + Send, J: Naming + Send + Sync, G: Gate + Sync, R: Threads
     }
 }
 
-/// Opens a desk of a volume, and runs each of at most [`MOST_SESSIONS`] scripts as a session at it, as [`run_sessions`] does, with no name
-/// to be picked. Of its replies a session keeps what `K` makes of each, in its own thread and as soon as it is given. What is kept
-/// stands in the relation `keeps` of `K` to the commands and their replies.
+/// Opens a desk of a volume, and runs each of at most [`MOST_SESSIONS`] scripts as a session at it, as [`run_sessions`] does. The caller picks no
+/// name. A session keeps what `K` derives from each reply, in its own thread and as soon as the reply is there. The relation `keeps` of `K` holds for
+/// the commands, their replies and the kept value.
 pub fn run_keeping<K: Keep + Send, G: Gate + Sync, R: Threads + Wait + Sync>(
     rt: &R,
     alloc: Global,
@@ -264,8 +265,8 @@ pub fn run_keeping<K: Keep + Send, G: Gate + Sync, R: Threads + Wait + Sync>(
     run_named::<K, Brand, G, R>(rt, alloc, volume, scripts, stamp, gate)
 }
 
-/// Opens a desk of a volume, and runs each of at most [`MOST_SESSIONS`] scripts as a session at it, as [`run_sessions`] does, with no name
-/// to be picked.
+/// Opens a desk of a volume, and runs each of at most [`MOST_SESSIONS`] scripts as a session at it, as [`run_sessions`] does. The caller picks no
+/// name.
 pub fn run_scripts<G: Gate + Sync, R: Threads + Wait + Sync>(
     rt: &R,
     alloc: Global,

@@ -19,8 +19,7 @@ use std::sync::{Mutex, MutexGuard, Wait};
 /// How often a desk that is in use is tried before its lock is waited for, which is a sleep as soon as another session sleeps.
 const TRIES: u32 = 50;
 
-/// A session with its number, from 1, at a desk: what it waits by, the gate, the allocator of what comes of it, and the stamp of the files
-/// that it makes.
+/// A session with its number, from 1, at a desk: its runtime, the gate, the allocator of its results, and the stamp of the files that it makes.
 #[derive(Drop)]
 pub(crate) struct Session<'a, J: Naming, L: Ledger, G: Gate, R: Wait> {
     pub(crate) rt: &'a R,
@@ -31,21 +30,21 @@ pub(crate) struct Session<'a, J: Naming, L: Ledger, G: Gate, R: Wait> {
     pub(crate) stamp: Stamp,
 }
 
-/// What a command leaves to the next one: the user in force, and what `$` stands for.
+/// What a command leaves for the next one: the user in force, and the value of `$`.
 #[derive(Drop)]
 pub(crate) struct Context {
     pub(crate) who: Uic,
     pub(crate) last: Option<FileId>,
 }
 
-/// Where a session sits: it has a viewer, and a share in the count of how often the list is said to be full.
+/// The belongings of a session: its viewer, and its share in the count of refusals because the list is full.
 #[derive(Drop)]
 pub(crate) struct Chair<J: Naming, L: Ledger> {
     pub(crate) viewer: Viewer<J>,
     pub(crate) fulls: Share<L>,
 }
 
-/// What comes of a session, and its share in that count.
+/// The result of a session, and its share in that count.
 #[derive(Drop)]
 pub(crate) struct Sat<K, L: Ledger> {
     pub(crate) ended: Ended<K>,
@@ -166,9 +165,8 @@ impl<J: Naming, L: Ledger, G: Gate, R: Wait> Session<'_, J, L, G, R> {
         Ok(())
     }
 
-    /// Obeys a script, from its first command on, as user [1,1], at a chair of its own. The list of
-    /// calls gets all its room before; what may want memory afterwards is what the desk takes, the copy
-    /// of a directory's names, the boxes of long answers, and what is kept of the replies.
+    /// Runs a script from its first command on, as user [1,1], with a viewer and a share of its own. The list of calls takes all its room first.
+    /// Memory is taken later only by the desk, the copies of directory names, the boxes of long answers, and the kept replies.
     pub(crate) fn sit<K: Keep>(
         &self,
         chair: Chair<J, L>,

@@ -1,4 +1,4 @@
-//! The settlement, after all sessions have ended: a volume's list against their calls.
+//! The settlement, after all sessions have ended: the comparison of a volume's list with the calls of the sessions.
 ghost use Rattle.std.specs.Prelude.{◌≡◌, ◌<◌, ◌≤◌, ◌^◌, ◌↔◌, All, IsTrue, IfOk, length, map, slice_index_or};
 ghost use Rattle.ods_request.specs.declared.answers.Entry.{Entry};
 ghost use Rattle.ods_share.specs.Settles.{call_in, calls_of, EachMatches, IsSettled, SettlesAs};
@@ -10,12 +10,12 @@ use ods_views::entry_count;
 use ods_volume::{Entries, Volume};
 use std::alloc::{AllocError, Global};
 
-/// How many entries a settled list has, in all, and of each session in order.
+/// The number of entries of a settled list, in total and for each session.
 #[derive(Drop, PartialEq, Eq, Debug)]
 pub struct Report {
-    /// In all.
+    /// The number of all entries.
     pub entries: u32,
-    /// Of each session, the first one first.
+    /// The number of entries of each session, session 1 first.
     pub of_session: Vec<u32>,
 }
 
@@ -112,9 +112,9 @@ fn lengths(alloc: Global, calls: &[Vec<Call>]) -> Result<Vec<u32>, AllocError>
     Ok(lengths)
 }
 
-/// Compares a volume's mounted image with this one, and its list with the calls of the sessions, session 1 first: each entry is of a
-/// session, and each session's entries are just its calls, in order. It is Ok exactly where all of this is so; else it is Unmatched.
-/// Want of memory for the report is NoMemory, of a list that is settled.
+/// Compares a volume's mounted image with this one, and its list with the calls of the sessions, session 1 first. The list is settled if each entry
+/// belongs to a session, and each session's entries are exactly its calls, in order. If the images differ or the list is not settled, the error is
+/// Unmatched. If the list is settled, but the report is out of memory, the error is NoMemory.
 pub fn settle(
     alloc: Global,
     image: &Image,
@@ -129,7 +129,7 @@ pub fn settle(
     settle_mounted(alloc, volume, calls)
 }
 
-/// Compares a volume's list with the calls of the sessions as `settle` does where the image is the mounted one, and looks at no block.
+/// Compares a volume's list with the calls of the sessions as [`settle`] does for the mounted image, and reads no block.
 pub fn settle_mounted(
     alloc: Global,
     volume: &Volume,

@@ -19,7 +19,7 @@ use std::sync::{Mutex, Wait};
 use std::thread;
 use std::thread::{Promise, PromisedHandle, Scope, Threads};
 
-/// That what a thread gives is what comes of this script, at a desk of this name, with a viewer that had seen what this one has.
+/// The promise that the result of a thread is the result of this script, at a desk of this name, with a viewer that had seen the same list.
 #[derive(Drop)]
 pub(crate) struct OfScript<J: Naming, K> {
     viewer: Snapshot<Viewer<J>>,
@@ -153,8 +153,8 @@ fn begin_all<
     }
 }
 
-/// Runs each script as a session in a thread of its own, the first as session 1, with the first viewer. All threads have ended when it
-/// returns, also where one could not be started.
+/// Runs each script as a session in a thread of its own, the first as session 1, with the first viewer. All threads have ended when it returns, also
+/// if one could not be started.
 pub(crate) fn run_all<
     K: Keep + Send,
     J: Naming + Send + Sync,

@@ -1,4 +1,4 @@
--- Which lines of a directory a path chooses.
+-- The lines of a directory that a path chooses.
 use Rattle.std.specs.Prelude.{◌≡◌, ◌≤◌, ◌⊎◌, List, [], ◌∷◌, ◌++◌, unwrap_or}
 use Rattle.std.specs.List.{Contains}
 use Rattle.ods_base.specs.Name.{RadName, title, type_text}
@@ -16,23 +16,23 @@ IsMatched files name = Matches files.name (title name) × Matches files.kind (ty
 abbrev pub IsOneName : Listed → Listed → Type 0
 IsOneName a b = (title a.name ≡ title b.name) × (type_text a.name ≡ type_text b.name)
 
--- The choice picks this line of these by its version: the one said, the highest or the lowest of those of its name, or each.
+-- The choice picks this line by its version: the exact version, the highest or the lowest version of its name, or every version.
 abbrev pub IsPicked : Versions → List Listed → Listed → Type 0
 IsPicked (Exact version) lines e = e.version ≡ version
 IsPicked Highest lines e = (o : Listed) → Contains lines o → IsOneName o e → o.version ≤ e.version
 IsPicked Lowest lines e = (o : Listed) → Contains lines o → IsOneName o e → e.version ≤ o.version
 IsPicked Every lines e = Unit {0}
 
--- the patterns match the line, and its version is picked, by the choice of the path or where it has none by this one
+-- the patterns match the line, and its version is picked by the choice of the path, or by `unsaid` if the path has none
 abbrev pub IsChosen : Files → Versions → List Listed → Listed → Type 0
 IsChosen files unsaid lines e = IsMatched files e.name × IsPicked (unwrap_or files.versions unsaid) lines e
 
--- just those of these of which P holds, in their order
+-- exactly the items that satisfy P, in their order
 abbrev pub AreThose : {X : Type 0} → (X → Type 0) → List X → List X → Type 0
 AreThose P [] found = found ≡ []
 AreThose {X} P (x ∷ xs) found = (P x × (rest : List X) × (found ≡ x ∷ rest) × AreThose P xs rest) ⊎ ((¬ P x) × AreThose P xs found)
 
--- for each of these, one after another, what P says of it
+-- the results of P for each item, in order
 abbrev pub AreEach : {X Y : Type 0} → (X → List Y → Type 0) → List X → List Y → Type 0
 AreEach P [] found = found ≡ []
 AreEach {X} {Y} P (x ∷ xs) found = (here : List Y) × (rest : List Y) × (found ≡ here ++ rest) × P x here × AreEach P xs rest

@@ -1,4 +1,4 @@
--- What is got out of a file: a text of it, or its bytes; and the remark on that.
+-- The contents of a file, its text or its bytes, and the remark on them.
 use Rattle.std.specs.Prelude.{◌≡◌, ℕ, ◌<◌, ◌≤◌, ◌&&◌, ◌||◌, ◌==◌, ◌⊎◌, nat_le, not, Bool, true, false, List, length, slice_index, take, Option, Some, None, MatchBool, if◌then◌else◌}
 use Rattle.ods_space.specs.Layout.{VolumeLayout}
 use Rattle.ods_space.specs.Files.{IsFile}
@@ -24,28 +24,28 @@ use Rattle.ods_shell.specs.declared.form.Remark.TheVariants as remark
 use Rattle.ods_records.specs.declared.kind.Wanted.{Wanted}
 use Rattle.ods_records.specs.declared.kind.Wanted.TheVariants.{ByKind, Text, Binary, Raw}
 
--- the kind of the records that are read, where any are
+-- the kind of the records that are read, if any
 abbrev pub kind_got : Wanted → List ℕ → Option RecordKind
 kind_got ByKind attributes = kind_in attributes
 kind_got Text attributes = kind_in attributes
 kind_got Binary attributes = None
 kind_got Raw attributes = None
 
--- which bytes are read
+-- the form of the bytes that are read
 abbrev pub form_got : Wanted → Form
 form_got ByKind = form.Binary
 form_got Text = form.Binary
 form_got Binary = form.Binary
 form_got Raw = form.Raw
 
--- not all blocks are asked for
+-- not all blocks are requested
 abbrev pub ends_early : Wanted → Bool
 ends_early ByKind = true
 ends_early Text = true
 ends_early Binary = true
 ends_early Raw = false
 
--- what is said of a file whose end is not known or may be wrong: its attributes are zeros; or it ends at 0 and has blocks, and not all are asked for
+-- the remark on a file whose end is unknown or may be wrong: its attributes are zeros; or it ends at 0 and has blocks, and not all are requested
 abbrev pub end_remark : Wanted → Body → Option Remark
 end_remark wanted body =
     if are_zeros body.attributes then Some remark.NoAttributes
@@ -60,35 +60,36 @@ IsTextOf (text.Blocked size) bytes got = (size ≤ 512) × ((lines : List (List 
 IsTextOf text.Stream bytes got = got ≡ without_cr bytes
 IsTextOf text.Bytes bytes got = got ≡ bytes
 
--- F.RATT that `--form` has words for
+-- the values of F.RATT for which `--form` has words
 abbrev pub has_words : ℕ → Bool
 has_words control = (control == 0) || (control == 1) || (control == 2) || (control == 4) || (control == 8) || (control == 9) || (control == 10) || (control == 12)
 
--- Sequenced records have a header of two bytes, which `--form` does not say.
+-- Sequenced records have a header of two bytes, which `--form` cannot specify.
 abbrev pub has_known_header : List ℕ → Bool
 has_known_header attributes = not (slice_index attributes 0 == 3) || (slice_index attributes 15 == 0) || (slice_index attributes 15 == 2)
 
--- `put -b --form` takes the bytes of such records back: `--form` has words for F.RTYP, F.RATT and F.RSIZ, the records' header is known, and no record is longer than F.RSIZ where that is not 0
+-- `put -b --form` stores the bytes of such records again: `--form` has words for F.RTYP, F.RATT and F.RSIZ, the header of the records is known, and
+-- no record is longer than F.RSIZ unless that is 0
 abbrev pub is_taken_back : List ℕ → ℕ → Bool
 is_taken_back attributes longest =
     nat_le (slice_index attributes 0) 4 && has_words (slice_index attributes 1) && has_known_header attributes && nat_le (word_at attributes 2) 32767
     && ((word_at attributes 2 == 0) || nat_le longest (word_at attributes 2))
 
--- what is said of records that are got as bytes: that they are, and the form by which `put -b` takes them back where it does
+-- the remark on records whose contents are bytes: it states this, and the form with which `put -b` stores them again, if there is one
 abbrev pub bytes_remark : List ℕ → ℕ → Remark
 bytes_remark attributes longest = if is_taken_back attributes longest then remark.NoText (take 4 attributes) else remark.NoForm
 
--- What is got of records without a word: their text, where they are lines that come back; else the bytes, and that is said.
+-- The contents of records when no form is requested: their text, if the lines restore the records. Otherwise they are the bytes, with a remark.
 abbrev pub IsChosen : RecordKind → Body → List ℕ → List ℕ → Option Remark → Type 0
 IsChosen kind body bytes got said = (records : List (List ℕ)) × Spells kind bytes records
     × (((come_as_lines body.attributes records ≡ true) × (got ≡ text_of records) × (said ≡ end_remark ByKind body))
     ⊎ ((come_as_lines body.attributes records ≡ false) × (got ≡ bytes) × (said ≡ Some (bytes_remark body.attributes (longest_of records)))))
 
--- where no text is got, the bytes
+-- if the contents are not a text, they are the bytes
 abbrev pub AreBytes : Wanted → Body → List ℕ → Option Remark → Type 0
 AreBytes wanted body got said = (bytes_in (form_got wanted) body ≡ Some got) × (said ≡ end_remark wanted body)
 
--- a file is read as a stream
+-- a file that is read as a stream
 abbrev pub is_stream : TextForm → Bool
 is_stream (text.Records kind) = false
 is_stream (text.Fixed size) = false
@@ -104,23 +105,24 @@ is_line_stream attributes = is_stream (text_form_in attributes) && (slice_index 
 abbrev pub AreStreamLines : Body → List ℕ → Option Remark → Type 0
 AreStreamLines body got said = (bytes : List ℕ) × (bytes_in form.Binary body ≡ Some bytes) × (got ≡ without_cr bytes) × (said ≡ end_remark ByKind body)
 
--- what is got without a word: of records as above, of a stream of lines these, of any other file its bytes
+-- the contents when no form is requested: for records as above, for a stream of lines its lines, for any other file its bytes
 abbrev pub IsGotAlone : Option RecordKind → Body → List ℕ → Option Remark → Type 0
 IsGotAlone None body got said = MatchBool (is_line_stream body.attributes) (AreStreamLines body got said) (AreBytes ByKind body got said)
 IsGotAlone (Some kind) body got said = (bytes : List ℕ) × (bytes_in form.Binary body ≡ Some bytes) × IsChosen kind body bytes got said
 
--- what is got out of a file with this body in the wanted form, and what is said of it
+-- the contents of a file with this body in the requested form, and the remark on them
 abbrev pub IsGotBy : Wanted → Body → List ℕ → Option Remark → Type 0
 IsGotBy ByKind body got said = IsGotAlone (kind_in body.attributes) body got said
 IsGotBy Text body got said = (bytes : List ℕ) × (bytes_in form.Binary body ≡ Some bytes) × IsTextOf (text_form_in body.attributes) bytes got × (said ≡ end_remark Text body)
 IsGotBy Binary body got said = AreBytes Binary body got said
 IsGotBy Raw body got said = AreBytes Raw body got said
 
--- these bytes are got out of file n in the wanted form, and this is said of them
+-- these are the contents of file n in the requested form, with this remark
 abbrev pub IsGot : List (List ℕ) → VolumeLayout → ℕ → Wanted → List ℕ → Option Remark → Type 0
 IsGot I L n wanted got said = (body : Body) × HasBody I L n body × IsGotBy wanted body got said
 
--- why bytes with these attributes have no text: the first fault of their records, or records of one size that are longer than the block that each is in
+-- the reason why bytes with these attributes have no text: the first fault of their records, or fixed-length records that are longer than their
+-- block
 abbrev pub HasNoText : List ℕ → List ℕ → FormFault → Type 0
 HasNoText attributes bytes fault.NoSuchFile = ⊥
 HasNoText attributes bytes fault.BadChain = ⊥
@@ -130,7 +132,8 @@ HasNoText attributes bytes (fault.Records f) = (kind : RecordKind) × (kind_in a
 HasNoText attributes bytes (fault.TooLongForBlock size) = (text_form_in attributes ≡ text.Blocked size) × (512 < size)
 HasNoText attributes bytes fault.NoMemory = Unit {0}
 
--- Why nothing is got out of a file with this body: its end lies past its blocks, and not all are asked for; or its records are read, and have a fault. Memory may run out at any moment.
+-- The reason why the contents of a file with this body are refused: its end is past its blocks, and not all are requested; or its records are read
+-- and have a fault. Out of memory can occur at any time.
 abbrev pub IsNotGotBy : Wanted → Body → FormFault → Type 0
 IsNotGotBy wanted body fault.NoSuchFile = ⊥
 IsNotGotBy wanted body fault.BadChain = ⊥
@@ -140,7 +143,7 @@ IsNotGotBy wanted body (fault.Records f) = (kind : RecordKind) × (kind_got want
 IsNotGotBy wanted body (fault.TooLongForBlock size) = (wanted ≡ Text) × (text_form_in body.attributes ≡ text.Blocked size) × (512 < size)
 IsNotGotBy wanted body fault.NoMemory = Unit {0}
 
--- Why nothing is got out of file n: it is no file; or its chain is not whole; or it is, and the file has not this form.
+-- The reason why the contents of file n are refused: it is not a file; its chain is not whole; or it is not available in this form.
 abbrev pub IsNotGot : List (List ℕ) → VolumeLayout → ℕ → Wanted → FormFault → Type 0
 IsNotGot I L n wanted fault.NoSuchFile = ¬ IsFile I L n
 IsNotGot I L n wanted fault.BadChain = IsFile I L n × IsChainFault I L n chain.BadChain
@@ -150,6 +153,6 @@ IsNotGot I L n wanted (fault.Records f) = (body : Body) × HasBody I L n body ×
 IsNotGot I L n wanted (fault.TooLongForBlock size) = (body : Body) × HasBody I L n body × IsNotGotBy wanted body (fault.TooLongForBlock size)
 IsNotGot I L n wanted fault.NoMemory = Unit {0}
 
--- On a sound image no file is refused for its chain.
+-- On a sound image no file is refused because of its chain.
 abbrev pub SoundChainsAreGot : Type 0
 SoundChainsAreGot = (I : List (List ℕ)) (L : VolumeLayout) (n lbn : ℕ) (wanted : Wanted) → IsSoundBy I L → (¬ IsNotGot I L n wanted fault.BadChain) × ¬ IsNotGot I L n wanted (fault.OutsideVolume lbn)

@@ -1,4 +1,4 @@
--- What is known of deleted files whose headers are still there, and which of them a path looks for.
+-- The facts of deleted files whose headers are still present, and the deleted files that a path selects.
 use Rattle.std.specs.Prelude.{◌≡◌, ℕ, Bool, List, length, Option, Some, None, MatchBool, option_map}
 use Rattle.std.specs.List.{AllZip, range_with_len}
 use Rattle.ods_base.specs.Block.{word}
@@ -18,15 +18,16 @@ use Rattle.ods_shell.specs.Choosing.{AreThose, IsMatched}
 use Rattle.ods_shell.specs.Facts.{bytes_by}
 use Rattle.ods_shell.specs.declared.deleted.Deletion.{Deletion}
 
--- the ID that the deleted header n has
+-- the ID in the deleted header n
 abbrev pub deleted_id : List (List ℕ) → VolumeLayout → ℕ → FileId
 deleted_id I L n = record { number = n; sequence = sequence_of (former I L n) }
 
--- A deleted file that shares blocks with the deleted file n, which has these: another one that names one of them, or where there is none n itself, which names one twice.
+-- A deleted file that shares blocks with the deleted file n, which has these blocks: another file that names one of them, or n itself if there is
+-- none and n names one twice.
 abbrev pub SharesWith : List (List ℕ) → VolumeLayout → ℕ → List ℕ → Option FileId → Type 0
 SharesWith I L n blocks id = (sharer : Option ℕ) × (id ≡ option_map (deleted_id I L) sharer) × IsSharerOrSelf I L n blocks sharer
 
--- what is said of the deleted file n with this first header, and of which this is known by its headers
+-- the facts of the deleted file n with this first header and this summary
 abbrev pub deletion_by : ℕ → List ℕ → Summary → Option FileId → Deletion
 deletion_by n header summary sharer = record {
   file = record { number = n; sequence = sequence_of header };
@@ -39,7 +40,7 @@ deletion_by n header summary sharer = record {
   whole = summary.is_whole;
 }
 
--- this is known of the deleted file n, which has these headers, and these blocks
+-- these are the facts of the deleted file n, which has these headers and these blocks
 pub record IsDeletionBy (I : List (List ℕ)) (L : VolumeLayout) (n : ℕ) (numbers lbns : List ℕ) (ends : Bool) (d : Deletion) : Type 0 where
   pub follows : IsFormerChain I L n numbers lbns ends
   pub id : d.file ≡ deleted_id I L n
@@ -51,11 +52,11 @@ pub record IsDeletionBy (I : List (List ℕ)) (L : VolumeLayout) (n : ℕ) (numb
   pub shared : SharesWith I L n lbns d.sharer
   pub complete : MatchBool d.whole (IsWhole I L n lbns ends) (¬ IsWhole I L n lbns ends)
 
--- this is known of the deleted file n
+-- these are the facts of the deleted file n
 abbrev pub IsDeletion : List (List ℕ) → VolumeLayout → ℕ → Deletion → Type 0
 IsDeletion I L n d = (numbers : List ℕ) × (lbns : List ℕ) × (ends : Bool) × IsDeletionBy I L n numbers lbns ends d
 
--- A version is looked for where no other one is said. What directories had is not known, so none is the highest or the lowest.
+-- A version is selected unless another one is specified. The former entries of directories are unknown, so no version is the highest or the lowest.
 abbrev pub HasVersion : Option Versions → ℕ → Type 0
 HasVersion None version = Unit {0}
 HasVersion (Some (Exact said)) version = version ≡ said
@@ -63,16 +64,17 @@ HasVersion (Some Highest) version = Unit {0}
 HasVersion (Some Lowest) version = Unit {0}
 HasVersion (Some Every) version = Unit {0}
 
--- A deleted file is looked for by the name in its ident: any, where no files are said; else one whose words spell a name that the patterns match.
+-- A deleted file is selected by the name in its ident: any name if no files are specified. Otherwise its words spell a valid name that the patterns
+-- match.
 abbrev pub IsSought : Option Files → List ℕ → Type 0
 IsSought None ident = Unit {0}
 IsSought (Some files) ident = IsName (name_in ident) × IsMatched files (name_in ident) × HasVersion files.versions (word ident 4)
 
--- n is a deleted file, and looked for
+-- n is a selected deleted file
 abbrev pub IsSoughtFile : List (List ℕ) → VolumeLayout → Option Files → ℕ → Type 0
 IsSoughtFile I L files n = IsDeletedFile I L n × IsSought files (ident_of (former I L n))
 
--- this is known of just those deleted files that are looked for, in the order of their numbers
+-- these are the facts of exactly the selected deleted files, in the order of their numbers
 abbrev pub AreDeletions : List (List ℕ) → VolumeLayout → Option Files → List Deletion → Type 0
 AreDeletions I L files all =
     (numbers : List ℕ) × AreThose (IsSoughtFile I L files) (range_with_len 1 (last_number L)) numbers × AllZip (IsDeletion I L) numbers all

@@ -1,4 +1,4 @@
--- The objects that are printed as JSON. Their members stand in the order of their names.
+-- The objects that are printed as JSON. Their members are in the order of their names.
 use Rattle.std.specs.Prelude.{ℕ, List, [], ◌∷◌, ◌++◌, codes, Option, Some, None}
 use Rattle.ods_base.specs.declared.file_id.FileId.{FileId}
 use Rattle.ods_header.specs.Text.{file_id_text, ident_text}
@@ -27,46 +27,46 @@ object_line ms = compact_text (object ms) ++ 10 ∷ []
 abbrev pub text_line : List ℕ → List ℕ → List ℕ
 text_line name text = object_line (with_text name text no_members)
 
--- the members, and how much of a file is there, where that is not all
+-- the members, and the condition of a file, unless it is whole
 abbrev pub with_condition : Condition → Members → Members
 with_condition Whole ms = ms
 with_condition Broken ms = with_text (codes "condition") (condition_word Broken) ms
 with_condition Outside ms = with_text (codes "condition") (condition_word Outside) ms
 
--- the members, and what is known of a file
+-- the members, and the facts of a file
 abbrev pub with_facts : Facts → Members → Members
 with_facts facts ms =
     with_condition facts.condition (with_text (codes "revised") (shown_date (revised_in facts.ident)) (with_text (codes "created") (shown_date (created_in facts.ident))
     (with_text (codes "protection") (shown_rights facts.protection) (with_text (codes "owner") (shown_user facts.owner)
     (with_text (codes "kind") (kind_word facts.kind) (with_number (codes "bytes") facts.bytes (with_number (codes "blocks") facts.blocks ms)))))))
 
--- the one member that says which image an object is of
+-- the one member that names the image of an object
 abbrev pub of_image : List ℕ → Members
 of_image image = with_text (codes "image") image no_members
 
--- what is known of a file that a path names
+-- the members for the facts of a file that a path selects
 abbrev pub stat_members : List ℕ → Facts → Members
 stat_members path facts =
     with_facts facts (with_number (codes "revision") (revision_in facts.ident) (with_text (codes "name") (ident_text facts.ident)
     (with_text (codes "id") (file_id_text facts.file) (with_text (codes "path") path no_members))))
 
--- the members, and how many blocks a volume has, how many are free, and the longest free run
+-- the members, and the number of blocks of a volume, the number of free blocks, and the longest free run
 unfoldable pub with_block_counts : Space → Members → Members
 with_block_counts s ms = with_number (codes "largest_free_run") s.longest (with_number (codes "free") s.free (with_number (codes "blocks") s.blocks ms))
 
--- the members, and how many file numbers are in use, ready, and there
+-- the members, and the numbers of file numbers that are in use, ready, and available in total
 unfoldable pub with_file_numbers : Space → Members → Members
 with_file_numbers s ms = with_number (codes "numbers") s.most (with_number (codes "numbers_ready") s.ready (with_number (codes "numbers_in_use") s.numbers ms))
 
--- how much of a volume is used
+-- the usage of a volume
 abbrev pub space_members : Space → Members
 space_members s = with_file_numbers s (with_block_counts s no_members)
 
--- the members, and what is known of a file, where it is known
+-- the members, and the facts of a file, if they are known
 abbrev pub with_known : Option Facts → Members → Members
 with_known None ms = ms
 with_known (Some facts) ms = with_facts facts ms
 
--- the path of an entry, the ID that it names, and what is known of that file
+-- the path of an entry, the ID that it names, and the facts of the file
 abbrev pub entry_members : List ℕ → List ℕ → FileId → Option Facts → Members
 entry_members image path file known = with_known known (with_text (codes "id") (file_id_text file) (with_text (codes "path") path (of_image image)))

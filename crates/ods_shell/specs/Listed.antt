@@ -1,4 +1,4 @@
--- The lines of `ls`, without headings and with them, and the last one; and the objects of `ls` as JSON.
+-- The lines of `ls`, with and without headings, and the last line; and the objects of `ls` as JSON.
 use Rattle.std.specs.Prelude.{◌≡◌, ℕ, ◌+◌, ◌-◌, ◌^◌, min, nat_le, Bool, if◌then◌else◌, List, [], ◌∷◌, ◌++◌, codes, length, Option, Some, None}
 use Rattle.std.specs.List.{range_with_len}
 use Rattle.std.specs.Fmt.{decimal}
@@ -12,18 +12,18 @@ use Rattle.ods_shell.specs.declared.facts.Facts.{Facts}
 use Rattle.ods_shell.specs.declared.folders.Directory.{Directory}
 use Rattle.ods_shell.specs.declared.ls.Columns.{Columns}
 
--- how many blocks a file has; none where it is not known
+-- the number of blocks of a file; 0 if it is unknown
 abbrev pub blocks_of : Option Facts → ℕ
 blocks_of None = 0
 blocks_of (Some facts) = facts.blocks
 
--- This is the text of the lines, and so many blocks the files have that they name, as far as is counted.
+-- This is the text of the lines. `blocks` is the number of blocks of the files that they name, up to 2^64 - 1.
 abbrev pub AreListed : List (List ℕ) → VolumeLayout → Columns → List Line → List ℕ → ℕ → Type 0
 AreListed I L columns [] text blocks = (text ≡ []) × (blocks ≡ 0)
 AreListed I L columns (line ∷ lines) text blocks = (known : Option Facts) × (rest : List ℕ) × (more : ℕ) × IsKnown I L line.entry.file known × AreListed I L columns lines rest more
     × (text ≡ entry_line line.entry known columns ++ rest) × (blocks ≡ min (blocks_of known + more) (2 ^ 64 - 1))
 
--- the last line: how many files and blocks these are
+-- the last line: the numbers of files and blocks
 unfoldable pub total_line : ℕ → ℕ → List ℕ
 total_line files blocks =
     decimal files ++ 32 ∷ counted_word files (codes "file") (codes "files") ++ codes ", " ++ decimal blocks ++ 32 ∷ counted_word blocks (codes "block") (codes "blocks") ++ 10 ∷ []
@@ -32,19 +32,20 @@ total_line files blocks =
 abbrev pub IsListing : List (List ℕ) → VolumeLayout → Columns → List Line → ℕ → List ℕ → Type 0
 IsListing I L columns lines files text = (listed : List ℕ) × (blocks : ℕ) × AreListed I L columns lines listed blocks × (text ≡ listed ++ total_line files blocks)
 
--- the directories from this place on, and before the other, where those without lines are shown
+-- the directories from index `from` to before index `to`, if directories without lines are shown
 abbrev pub places_from : Bool → ℕ → ℕ → List ℕ
 places_from empty from to = if empty then range_with_len from (to - from) else []
 
--- the directories whose headings stand before a line of the one at this place, where those below the first have theirs
+-- the directories whose headings are printed before a line of the directory with this index, if the first `headed` have theirs
 abbrev pub places_before : Bool → ℕ → ℕ → List ℕ
 places_before empty headed place = if nat_le headed place then places_from empty headed place ++ place ∷ [] else []
 
--- below which place they have theirs then, as far as is counted
+-- the number of directories that have their headings afterwards, up to 2^64 - 1
 abbrev pub headed_by : ℕ → ℕ → ℕ
 headed_by headed place = if nat_le headed place then min (place + 1) (2 ^ 64 - 1) else headed
 
--- Behind this text, where the directories below a place have their headings, these lines stand with theirs: so the text is then, below this place they have theirs, and so many blocks the files have.
+-- After the text `before`, in which the first `headed` directories have their headings, these lines follow with theirs. Then the text is `text`,
+-- the first `top` directories have their headings, and the files have `blocks` blocks, up to 2^64 - 1.
 abbrev pub AreListedUnder : List (List ℕ) → VolumeLayout → Columns → List Directory → List ℕ → ℕ → List Line → List ℕ → ℕ → ℕ → Type 0
 AreListedUnder I L columns directories before headed [] text top blocks = (text ≡ before) × (top ≡ headed) × (blocks ≡ 0)
 AreListedUnder I L columns directories before headed (line ∷ lines) text top blocks = (known : Option Facts) × (more : ℕ) × IsKnown I L line.entry.file known
@@ -56,7 +57,7 @@ abbrev pub IsListingUnder : List (List ℕ) → VolumeLayout → Columns → Lis
 IsListingUnder I L columns directories lines files text = (listed : List ℕ) × (top : ℕ) × (blocks : ℕ) × AreListedUnder I L columns directories [] 0 lines listed top blocks
     × (text ≡ with_headings directories listed (places_from columns.empty top (length directories)) ++ total_line files blocks)
 
--- an object for each line that was found in these directories: its path, the ID that it names, and what is known of that file
+-- an object for each line that was found in these directories: its path, the ID that it names, and the facts of the file
 abbrev pub AreObjects : List (List ℕ) → VolumeLayout → List ℕ → List Directory → List Line → List ℕ → Type 0
 AreObjects I L image directories [] text = text ≡ []
 AreObjects I L image directories (line ∷ lines) text = (known : Option Facts) × (rest : List ℕ) × IsKnown I L line.entry.file known × AreObjects I L image directories lines rest

@@ -1,4 +1,4 @@
--- The files that a path names, as the commands get them.
+-- The files that a path selects, as the commands receive them.
 use Rattle.std.specs.Prelude.{◌≡◌, ◌≢◌, ◌<◌, ◌⊎◌, ℕ, true, false, List, [], ◌∷◌, ◌++◌, length, codes, Option, Some, None, MatchOption, slice_get}
 use Rattle.std.specs.Option.{option_or}
 use Rattle.ods_base.specs.declared.file_id.FileId.{FileId}
@@ -25,7 +25,7 @@ use Rattle.ods_shell.specs.Choosing.{AreEach, AreThose}
 use Rattle.ods_shell.specs.Found.{AreFound}
 use Rattle.ods_shell.specs.Ways.{AreMeant, AreStarts, AreWays, IsWayBy}
 
--- what is known of the file with this ID; nothing where there is none
+-- the facts of the file with this ID; none if there is no such file
 abbrev pub IsKnown : List (List ℕ) → VolumeLayout → FileId → Option Facts → Type 0
 IsKnown I L file known = MatchOption known ((facts : Facts) → AreFacts I L file.number facts → facts.file ≢ file) (λ facts. AreFacts I L file.number facts × (facts.file ≡ file))
 
@@ -33,87 +33,90 @@ IsKnown I L file known = MatchOption known ((facts : Facts) → AreFacts I L fil
 abbrev pub id_of : List (List ℕ) → VolumeLayout → ℕ → FileId
 id_of I L n = record { number = n; sequence = sequence_of (header_at I L n) }
 
--- this is the entry of this directory, and what is known of the file that it names
+-- this is the entry of this directory, with the facts of the file that it names
 pub record IsEntryOf (I : List (List ℕ)) (L : VolumeLayout) (directory : Directory) (entry : Listed) (found : Found) : Type 0 where
   pub stands : found.place ≡ Some (record { directory = id_of I L directory.number; entry = entry })
   pub known : IsKnown I L entry.file found.facts
 
--- each line's directory is one of these
+-- the directory of each line is one of these
 abbrev pub AreWithin : List Directory → List Line → Type 0
 AreWithin directories lines = (k : ℕ) (line : Line) → slice_get lines k ≡ Some line → line.directory < length directories
 
--- one for each of these lines, in their order: the line's entry of its directory
+-- one result for each of these lines, in their order: the entry of the line in its directory
 abbrev pub AreLines : List (List ℕ) → VolumeLayout → List Directory → List Line → List Found → Type 0
 AreLines I L directories [] found = found ≡ []
 AreLines I L directories (line ∷ lines) found =
     (directory : Directory) × (slice_get directories line.directory ≡ Some directory)
     × ((one : Found) × ((rest : List Found) × (found ≡ one ∷ rest) × IsEntryOf I L directory line.entry one × AreLines I L directories lines rest))
 
--- In the directories that the folder means these are the lines that the files choose, where the path says versions or these are meant.
+-- In the directories that the folder selects, these are the lines that the files choose, with the versions of the path, or otherwise the default
+-- ones.
 abbrev pub AreNamed : List (List ℕ) → VolumeLayout → List ℕ → Folder → Files → Option Versions → List Found → Type 0
 AreNamed I L closed folder files unsaid found = (versions : Versions) × (option_or files.versions unsaid ≡ Some versions)
     × ((directories : List Directory) × AreMeant I L closed folder directories × ((lines : List Line) × AreFound I L (Some files) versions 0 directories lines × AreLines I L directories lines found))
 
--- this one file is named by its ID
+-- the path selects this one file by its ID
 abbrev pub IsFileOf : List (List ℕ) → VolumeLayout → FileId → List Found → Type 0
 IsFileOf I L file found = (one : Found) × (found ≡ one ∷ []) × (one.place ≡ None)
     × ((facts : Facts) × (one.facts ≡ Some facts) × AreFacts I L file.number facts × (facts.file ≡ file))
 
--- what one entry of a directory names
+-- the file that one entry of a directory names
 abbrev pub IsOne : List (List ℕ) → VolumeLayout → Directory → Listed → List Found → Type 0
 IsOne I L directory entry found = (one : Found) × (found ≡ one ∷ []) × IsEntryOf I L directory entry one
 
--- what these entries of a directory name, in their order
+-- the files that these entries of a directory name, in their order
 abbrev pub AreEntries : List (List ℕ) → VolumeLayout → Directory → List Listed → List Found → Type 0
 AreEntries I L directory entries found = AreEach (IsOne I L directory) entries found
 
--- the entries by which a step leads on from this directory
+-- the entries that a step selects in this directory
 abbrev pub AreLedBy : List (List ℕ) → VolumeLayout → List ℕ → Step → Directory → List Found → Type 0
 AreLedBy I L closed step from found =
     (ways : List Listed) × (those : List Listed) × AreWays I L closed from.number ways × AreThose (IsWayBy step ways) ways those × AreEntries I L from those found
 
--- the entries by which a last step leads on from the directories to which the steps before it lead
+-- the entries that a last step selects in the directories that the steps before it reach
 abbrev pub AreLed : List (List ℕ) → VolumeLayout → List ℕ → List Step → Step → List Found → Type 0
 AreLed I L closed before last found = (starts : List Directory) × AreStarts I L closed before starts × AreEach (AreLedBy I L closed last) starts found
 
--- the name of the master directory, in itself
+-- the name of the master directory in itself
 abbrev pub master_file : Files
 master_file = record { name = codes "000000"; kind = codes "DIR"; versions = Some versions.Highest }
 
--- The files of the directories themselves that a folder means: that of the master directory, or those to which its last step leads. A folder with all below has none.
+-- The files of the directories themselves that a folder selects: the master directory, or the directories that its last step reaches. A folder with
+-- all directories below has none.
 abbrev pub AreThemselves : List (List ℕ) → VolumeLayout → List ℕ → Folder → List Found → Type 0
 AreThemselves I L closed folder found = (folder.below ≡ false)
     × (((folder.steps ≡ []) × AreNamed I L closed folder master_file None found)
     ⊎ ((before : List Step) × (last : Step) × (folder.steps ≡ before ++ last ∷ []) × AreLed I L closed before last found))
 
--- what was found is no directory
+-- the found file is not a directory
 abbrev pub IsNoDirectory : Found → Type 0
 IsNoDirectory found = MatchOption found.facts (Unit {0}) (λ facts. facts.kind ≢ kind.Directory)
 
 abbrev pub every_file : Files
 every_file = record { name = codes "*"; kind = codes "*"; versions = None }
 
--- the files in the directories that a folder means, but for directories
+-- the files in the directories that a folder selects, without directories
 abbrev pub AreInside : List (List ℕ) → VolumeLayout → List ℕ → Folder → Option Versions → List Found → Type 0
 AreInside I L closed folder unsaid found = (all : List Found) × AreNamed I L closed folder every_file unsaid all × AreThose IsNoDirectory all found
 
--- what a folder alone stands for
+-- the selection of a path that is only a folder
 abbrev pub AreAlone : List (List ℕ) → VolumeLayout → List ℕ → Folder → Option Versions → Alone → List Found → Type 0
 AreAlone I L closed folder unsaid alone.Refused found = ⊥
 AreAlone I L closed folder unsaid alone.Files found = AreInside I L closed folder unsaid found
 AreAlone I L closed folder unsaid alone.Themselves found = AreThemselves I L closed folder found
 
--- the highest version where a path says none, and this of a folder alone
+-- the highest version as the default, and this selection for a path that is only a folder
 abbrev pub highest : Alone → Unsaid
 highest meaning = record { versions = Some versions.Highest; alone = meaning }
 
--- what a path names that says this
+-- the selection of a path with this meaning
 abbrev pub AreNamedBy : List (List ℕ) → VolumeLayout → List ℕ → Said → Unsaid → List Found → Type 0
 AreNamedBy I L closed (File file) unsaid found = IsFileOf I L file found
 AreNamedBy I L closed (Within folder None) unsaid found = AreAlone I L closed folder unsaid.versions unsaid.alone found
 AreNamedBy I L closed (Within folder (Some files)) unsaid found = AreNamed I L closed folder files unsaid.versions found
 
--- Why files of a folder are not named: versions are wanted and not said, or there are none, and no directory on the way is closed.
+-- The reason why files of a folder are not selected: versions are required and not specified; or there are no files, and no directory on the way is
+-- closed.
 abbrev pub AreNotNamed : List (List ℕ) → VolumeLayout → Folder → Files → Option Versions → PathFault → Type 0
 AreNotNamed I L folder files unsaid fault.NoMemory = Unit {0}
 AreNotNamed I L folder files unsaid fault.NoVersion = option_or files.versions unsaid ≡ None
@@ -123,7 +126,8 @@ AreNotNamed I L folder files unsaid fault.NoName = ⊥
 AreNotNamed I L folder files unsaid fault.IsId = ⊥
 AreNotNamed I L folder files unsaid fault.NoSuchFile = ⊥
 
--- Why a folder alone stands for nothing: the command wants files, or no one path means the directories below others; or none are there.
+-- The reason why only a folder selects nothing: the command requires files; the folder includes all directories below, which no single path
+-- selects; or there are no files.
 abbrev pub IsNoneAlone : List (List ℕ) → VolumeLayout → Folder → Option Versions → Alone → PathFault → Type 0
 IsNoneAlone I L folder unsaid meaning fault.NoMemory = Unit {0}
 IsNoneAlone I L folder unsaid meaning fault.NoName = (meaning ≡ alone.Refused) ⊎ ((meaning ≡ alone.Themselves) × (folder.below ≡ true))
@@ -133,16 +137,16 @@ IsNoneAlone I L folder unsaid meaning (fault.Bad bad) = ⊥
 IsNoneAlone I L folder unsaid meaning fault.IsId = ⊥
 IsNoneAlone I L folder unsaid meaning fault.NoSuchFile = ⊥
 
--- why files of a folder, or the folder alone, name nothing
+-- the reason why the files of a folder, or only the folder, select nothing
 abbrev pub AreNoneOf : List (List ℕ) → VolumeLayout → Folder → Option Files → Unsaid → PathFault → Type 0
 AreNoneOf I L folder None unsaid why = IsNoneAlone I L folder unsaid.versions unsaid.alone why
 AreNoneOf I L folder (Some files) unsaid why = AreNotNamed I L folder files unsaid.versions why
 
--- the path says a folder, or files in it, that name nothing for this reason
+-- the path is a folder, or files in a folder, and selects nothing for this reason
 abbrev pub IsUnnamed : List (List ℕ) → VolumeLayout → List ℕ → Unsaid → PathFault → Type 0
 IsUnnamed I L path unsaid why = (folder : Folder) × (files : Option Files) × Says path (Within folder files) × AreNoneOf I L folder files unsaid why
 
--- Why a path names nothing.
+-- The reason why a path selects nothing.
 abbrev pub IsPathFault : List (List ℕ) → VolumeLayout → List ℕ → Unsaid → PathFault → Type 0
 IsPathFault I L path unsaid fault.NoMemory = Unit {0}
 IsPathFault I L path unsaid (fault.Bad bad) = IsBad path bad

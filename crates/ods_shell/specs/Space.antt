@@ -1,19 +1,19 @@
--- How much of a volume is used.
+-- The usage of a volume.
 use Rattle.std.specs.Prelude.{◌≡◌, ◌↔◌, ℕ, ◌+◌, ◌<◌, ◌≤◌, ◌-◌, ◌⊎◌, true, false, List, length}
 use Rattle.std.specs.List.{filter, range_with_len}
 use Rattle.ods_space.specs.Layout.{VolumeLayout, is_in_use}
 use Rattle.ods_space.specs.Free.{is_free_block, free_blocks, free_numbers}
 use Rattle.ods_shell.specs.declared.space.Space.{Space}
 
--- somewhere so many free blocks follow one another
+-- there are n consecutive free blocks
 abbrev pub HasFreeRun : List (List ℕ) → VolumeLayout → ℕ → Type 0
 HasFreeRun I L n = (from : ℕ) × ((k : ℕ) → k < n → is_free_block I L (from + k) ≡ true)
 
--- just so many free blocks follow one another right before this LBN
+-- exactly n consecutive free blocks end just before this LBN
 abbrev pub EndsRun : List (List ℕ) → VolumeLayout → ℕ → ℕ → Type 0
 EndsRun I L at n = (from : ℕ) × (from + n ≡ at) × ((k : ℕ) → k < n → is_free_block I L (from + k) ≡ true) × ((from ≡ 0) ⊎ (is_free_block I L (from - 1) ≡ false))
 
--- So much of a volume is used: of its blocks, and of its file numbers.
+-- This is the usage of a volume: of its blocks, and of its file numbers.
 pub record IsSpaceOf (I : List (List ℕ)) (L : VolumeLayout) (space : Space) : Type 0 where
   pub all : space.blocks ≡ length I
   pub unused : space.free ≡ length (free_blocks I L)

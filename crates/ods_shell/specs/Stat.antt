@@ -14,7 +14,7 @@ use Rattle.ods_shell.specs.declared.facts.Condition.TheVariants.{Whole, Broken, 
 use Rattle.ods_shell.specs.declared.facts.Facts.{Facts}
 use Rattle.ods_shell.specs.declared.facts.Kind.{Kind}
 
--- a text where something holds, and else nothing
+-- the text if the condition holds, otherwise nothing
 unfoldable pub text_if : Bool → List ℕ → List ℕ
 text_if holds text = if holds then text else []
 
@@ -22,7 +22,7 @@ text_if holds text = if holds then text else []
 unfoldable pub created_line : List ℕ → List ℕ
 created_line ident = codes "Created: " ++ shown_date (created_in ident) ++ 10 ∷ []
 
--- the line of the last revision: its date, and how often the file was revised
+-- the line of the last revision: its date, and the number of revisions
 unfoldable pub revised_line : List ℕ → List ℕ
 revised_line ident = codes "Revised: " ++ shown_date (revised_in ident) ++ codes ", revision " ++ decimal (revision_in ident) ++ 10 ∷ []
 
@@ -75,11 +75,11 @@ user_words user = contiguous_word user ++ locked_word user
 unfoldable pub system_words : ℕ → List ℕ
 system_words system = text_if (system / 128 % 2 == 1) (codes " marked for deletion") ++ text_if (system / 64 % 2 == 1) (codes " bad data")
 
--- the word where none of these four bits is set
+-- the word if none of these four bits is set
 unfoldable pub no_words : ℕ → ℕ → List ℕ
 no_words user system = text_if ((user / 64 == 0) && (system / 64 == 0)) (codes " none")
 
--- what stands before the characteristics
+-- the text before the characteristics
 unfoldable pub characteristics_label : List ℕ
 characteristics_label = codes "Characteristics:"
 
@@ -91,17 +91,17 @@ characteristics_text user system = characteristics_label ++ user_words user ++ s
 abbrev pub is_run_end : List ℕ → ℕ → Bool
 is_run_end lbns at = (at + 1 == length lbns) || not (slice_index lbns at + 1 == slice_index lbns (at + 1))
 
--- where the run begins that has this block, counted from 0
+-- the index of the first block of the run that contains this block
 abbrev pub run_start : List ℕ → ℕ → ℕ
 run_start lbns zero = 0
 run_start lbns (suc at) = if is_run_end lbns at then suc at else run_start lbns at
 
--- a run of blocks, which begins at the first place and ends at the second: their VBNs, counted from 1, and their LBNs
+-- a run of blocks from index `from` to index `at`: its VBNs, counted from 1, and its LBNs
 abbrev pub run_line : List ℕ → ℕ → ℕ → List ℕ
 run_line lbns from at =
     codes "Run: VBN " ++ decimal (from + 1) ++ codes " to " ++ decimal (at + 1) ++ codes " at LBN " ++ decimal (slice_index lbns at - (at - from)) ++ codes " to " ++ decimal (slice_index lbns at) ++ 10 ∷ []
 
--- the line of the run that ends with this block, where one does
+-- the line of the run that ends with this block, if one does
 abbrev pub run_text : List ℕ → ℕ → List ℕ
 run_text lbns at = text_if (is_run_end lbns at) (run_line lbns (run_start lbns at) at)
 
@@ -109,7 +109,7 @@ run_text lbns at = text_if (is_run_end lbns at) (run_line lbns (run_start lbns a
 abbrev pub runs_text : List ℕ → List ℕ
 runs_text lbns = flat_map (run_text lbns) (range_with_len 0 (length lbns))
 
--- the line of a file's path
+-- the line of the path of a file
 unfoldable pub path_line : List ℕ → List ℕ
 path_line path = codes "Path: " ++ path ++ 10 ∷ []
 
@@ -121,29 +121,29 @@ id_line file = codes "ID: " ++ file_id_text file ++ 10 ∷ []
 unfoldable pub header_name_line : List ℕ → List ℕ
 header_name_line ident = codes "Name in header: " ++ ident_text ident ++ 10 ∷ []
 
--- the line of what it holds
+-- the line of its kind
 unfoldable pub kind_line : Kind → List ℕ
 kind_line kind = codes "Kind: " ++ kind_word kind ++ 10 ∷ []
 
--- the line of how much of it is there, where that is not all
+-- the line of its condition, unless it is whole
 unfoldable pub condition_line : Condition → List ℕ
 condition_line Whole = []
 condition_line Broken = codes "Chain: broken" ++ 10 ∷ []
 condition_line Outside = codes "Chain: outside" ++ 10 ∷ []
 
--- the line of how many blocks it has
+-- the line of its number of blocks
 unfoldable pub blocks_line : ℕ → List ℕ
 blocks_line blocks = codes "Blocks: " ++ decimal blocks ++ 10 ∷ []
 
--- the line of how many bytes it has
+-- the line of its number of bytes
 unfoldable pub bytes_line : ℕ → List ℕ
 bytes_line bytes = codes "Bytes: " ++ decimal bytes ++ 10 ∷ []
 
--- the line of whose it is
+-- the line of its owner
 unfoldable pub owner_line : Uic → List ℕ
 owner_line owner = codes "Owner: " ++ shown_user owner ++ 10 ∷ []
 
--- what stands before its protection
+-- the text before its protection
 unfoldable pub protection_label : List ℕ
 protection_label = codes "Protection: "
 
@@ -151,15 +151,15 @@ protection_label = codes "Protection: "
 unfoldable pub protection_line : ℕ → List ℕ
 protection_line protection = protection_label ++ shown_rights protection ++ 10 ∷ []
 
--- a file's path, its ID, the name in its header, what it holds, and how much of it is there
+-- the path of a file, its ID, the name in its header, its kind, and its condition
 abbrev pub head_text : List ℕ → Facts → List ℕ
 head_text path facts = path_line path ++ id_line facts.file ++ header_name_line facts.ident ++ kind_line facts.kind ++ condition_line facts.condition
 
--- how large a file is, whose it is, and its protection
+-- the size of a file, its owner, and its protection
 abbrev pub size_text : Facts → List ℕ
 size_text facts = blocks_line facts.blocks ++ bytes_line facts.bytes ++ owner_line facts.owner ++ protection_line facts.protection
 
--- all lines: a field a line, and the runs of the blocks
+-- all lines: one field per line, and the runs of the blocks
 abbrev pub stat_text : List ℕ → Facts → List ℕ → List ℕ
 stat_text path facts lbns =
     head_text path facts ++ size_text facts ++ dates_text facts.ident ++ records_text facts.attributes ++ characteristics_text facts.user_char facts.system_char ++ runs_text lbns

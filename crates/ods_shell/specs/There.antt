@@ -1,4 +1,4 @@
--- The lines of `find`: the files that paths name, and those that no path names.
+-- The lines of `find`: the files that paths reach, and the files that no path reaches.
 use Rattle.std.specs.Prelude.{◌≡◌, ◌≢◌, ◌<◌, ℕ, Bool, false, if◌then◌else◌, List, [], ◌∷◌, ◌++◌, codes, length, map, slice_get, slice_index_or, Option, Some, None, MatchBool}
 use Rattle.std.specs.List.{Contains, flat_map, range_with_len}
 use Rattle.ods_base.specs.declared.file_id.FileId.{FileId}
@@ -24,16 +24,16 @@ IsThere I L file = IsFile I L file.number × (sequence_of (header_at I L file.nu
 abbrev pub unreached_line : FileId → List ℕ
 unreached_line file = shown_id file ++ codes "  -" ++ 10 ∷ []
 
--- the path of an entry by the directory that it stands in; nothing where there is none
+-- the path of an entry by the directory that contains it; nothing if there is none
 abbrev pub path_in : Option Directory → Listed → List ℕ
 path_in None entry = []
 path_in (Some d) entry = shown_path d.names.items entry
 
--- the path of a line that was found in these directories
+-- the path of a found line in these directories
 abbrev pub line_path : List Directory → Line → List ℕ
 line_path directories line = path_in (slice_get directories line.directory) line.entry
 
--- the line of a path that was found: the ID, and the path
+-- the line of a found path: the ID, and the path
 abbrev pub found_line : List Directory → Line → List ℕ
 found_line directories line = shown_id line.entry.file ++ codes "  " ++ line_path directories line ++ 10 ∷ []
 
@@ -45,33 +45,33 @@ unreached_text json image file = if json then object_line (with_text (codes "id"
 abbrev pub ids_in : List Line → List FileId
 ids_in lines = map (λ line. line.entry.file) lines
 
--- File n is there, and none of these IDs is its.
+-- File n exists, and its ID is not one of these.
 abbrev pub IsNotAmong : List (List ℕ) → VolumeLayout → List FileId → ℕ → Type 0
 IsNotAmong I L ids n = IsFile I L n × ¬ Contains ids (id_of I L n)
 
--- File n is there, and no entry of any directory names it.
+-- File n exists, and no entry of any directory names it.
 abbrev pub IsNamedByNone : List (List ℕ) → VolumeLayout → ℕ → Type 0
 IsNamedByNone I L n = IsFile I L n × ((d : ℕ) (e : Listed) → IsDirectoryFile I L d → HasEntry I L d e → e.file ≢ id_of I L n)
 
--- File n is there, and is not flagged.
+-- File n exists, and is not flagged.
 abbrev pub IsUnnoted : List (List ℕ) → VolumeLayout → List Bool → ℕ → Type 0
 IsUnnoted I L flags n = IsFile I L n × (slice_index_or flags n false ≡ false)
 
--- File n is there, and one of these IDs is its.
+-- File n exists, and its ID is one of these.
 abbrev pub IsAmong : List (List ℕ) → VolumeLayout → List FileId → ℕ → Type 0
 IsAmong I L ids n = IsFile I L n × Contains ids (id_of I L n)
 
--- just these IDs are named by the entries of directory d; where d is none, there are none
+-- the entries of directory d name exactly these IDs; there are none if d is not a directory
 pub record AreNamedIds (I : List (List ℕ)) (L : VolumeLayout) (d : ℕ) (ids : List FileId) : Type 0 where
   pub only : (id : FileId) → Contains ids id → IsDirectoryFile I L d × ((e : Listed) × HasEntry I L d e × (e.file ≡ id))
   pub all : (e : Listed) → IsDirectoryFile I L d → HasEntry I L d e → Contains ids e.file
 
--- of the numbers below 65,536 just those are flagged of which P holds
+-- exactly the numbers below 65,536 that satisfy P are flagged
 pub record AreFlags (P : ℕ → Type 0) (flags : List Bool) : Type 0 where
   pub size : length flags ≡ 65536
   pub each : (n : ℕ) → n < 65536 → MatchBool (slice_index_or flags n false) (P n) (¬ P n)
 
--- the text has a line, or an object, for just those files of which P holds, in the order of their numbers
+-- the text has a line, or an object, for exactly the files that satisfy P, in the order of their numbers
 abbrev pub AreUnreached : List (List ℕ) → VolumeLayout → (ℕ → Type 0) → Bool → List ℕ → List ℕ → Type 0
 AreUnreached I L P json image text =
     (numbers : List ℕ) × AreThose P (range_with_len 1 (last_number L)) numbers × (text ≡ flat_map (λ n. unreached_text json image (id_of I L n)) numbers)

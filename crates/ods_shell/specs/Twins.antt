@@ -1,9 +1,9 @@
--- Two entries of one directory with one name and version: a path cannot say which of them it means.
+-- Two entries of one directory with the same name and version, for which a path is ambiguous.
 use Rattle.std.specs.Prelude.{◌≡◌, ℕ, ◌+◌, List, Some, slice_get}
 use Rattle.ods_shell.specs.declared.found.EntryPlace.{EntryPlace}
 use Rattle.ods_shell.specs.declared.found.Found.{Found}
 
--- two that were found stand in one directory, with one name and version
+-- two found files are entries of one directory, with the same name and version
 pub record AreTwins (a b : Found) : Type 0 where
   pub one : EntryPlace
   pub other : EntryPlace
@@ -13,7 +13,7 @@ pub record AreTwins (a b : Found) : Type 0 where
   pub name : one.entry.name ≡ other.entry.name
   pub version : one.entry.version ≡ other.entry.version
 
--- at this place and the next stand twins
+-- twins are at this index and the next one
 pub record StandsTwice (found : List Found) (i : ℕ) : Type 0 where
   pub a : Found
   pub b : Found
@@ -21,6 +21,6 @@ pub record StandsTwice (found : List Found) (i : ℕ) : Type 0 where
   pub next : slice_get found (i + 1) ≡ Some b
   pub twins : AreTwins a b
 
--- Some neighbours are twins. In the order of a listing entries of one name follow one another.
+-- Two consecutive files are twins. In the order of a listing, entries with the same name are consecutive.
 abbrev pub HaveTwins : List Found → Type 0
 HaveTwins found = (i : ℕ) × StandsTwice found i

@@ -1,4 +1,4 @@
-//! What a path stands for that says directories alone, and no files in them.
+//! The files that a path selects if it consists only of directories.
 ghost use Rattle.std.specs.Prelude.{◌≡◌, ◌≢◌, ◌++◌, ◌∷◌, ℕ, List, [], None, Option, IfErr, IfOk, MatchBool, OnOk};
 ghost use Rattle.ods_paths.specs.Views.{folder as said_folder};
 ghost use Rattle.ods_shell.specs.Choosing.{AreThose};
@@ -17,28 +17,28 @@ use ods_paths::{Files, Folder, Versions};
 use ods_space::Disk;
 use std::alloc::{AllocError, Global};
 
-/// What directories alone stand for.
+/// The selection of a path that consists only of directories.
 #[derive(Clone, Copy, Debug, PartialEq, Eq)]
 pub enum Alone {
-    /// Nothing: such a path is refused.
+    /// None: such a path is refused.
     Refused,
-    /// The files in them, but for the directories among these.
+    /// The files in the directories, without the directories among them.
     Files,
     /// The files of the directories themselves.
     Themselves,
 }
 
-/// What a path means where it does not say it.
+/// The defaults for a path.
 #[derive(Clone, Copy)]
 pub struct Unsaid {
-    /// The versions of files; `None` where a path has to say them.
+    /// The versions of files; `None` if a path has to specify them.
     pub versions: Option<Versions>,
-    /// What directories alone stand for.
+    /// The selection of a path that consists only of directories.
     pub alone: Alone,
 }
 
 impl Unsaid {
-    /// The highest version, and this of directories alone.
+    /// Returns the highest version as the default, and this selection for a path that consists only of directories.
     pub fn highest(alone: Alone) -> Unsaid
         ensures { result ≡ highest alone }
     {
@@ -52,7 +52,7 @@ impl Unsaid {
 /// The name of the master directory.
 const MASTER_FILE: &[u8] = b"000000";
 
-/// What directories alone stand for: as `find_path` finds it.
+/// Returns the files that a path selects if it consists only of directories, as `find_path` returns them.
 pub(crate) fn find_alone(
     alloc: Global,
     disk: &Disk<'_>,

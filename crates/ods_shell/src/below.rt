@@ -1,4 +1,4 @@
-//! Directories and all below them.
+//! Directories and all directories below them.
 ghost use Rattle.std.specs.Prelude.{◌≡◌, ◌⊎◌, ◌<◌, ◌++◌, ◌∷◌, ℕ, List, [], length, map, nat_eq, IfOk, OnOk};
 ghost use Rattle.std.specs.List.{Contains, IsDistinct};
 ghost use Rattle.ods_walk.specs.declared.tables.Line.{Line as Placed};
@@ -14,7 +14,7 @@ use ods_space::Disk;
 use ods_walk::{Line, Walk, walk_past};
 use std::alloc::{AllocError, Global};
 
-/// These directories and all below them, each once.
+/// Returns these directories and all directories below them, each once.
 pub(crate) fn with_all_below(
     alloc: Global,
     disk: &Disk<'_>,

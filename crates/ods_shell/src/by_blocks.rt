@@ -1,4 +1,4 @@
-//! What is got out of blocks that a header names, where no index file has to know that header.
+//! The contents of the blocks that a header names. The header need not be in an index file.
 ghost use Rattle.std.specs.Prelude.{◌≤◌, ℕ, List, length, IfOk, IfErr};
 ghost use Rattle.ods_space.specs.Chain.{chain_blocks};
 ghost use Rattle.ods_files.specs.Body.{body_at};
@@ -10,8 +10,8 @@ use ods_files::FileBody;
 use ods_records::Wanted;
 use std::alloc::Global;
 
-/// What is got of a file with these attributes and the blocks at these LBNs, in the form that is asked for. Zeros stand for a block past
-/// the image.
+/// Returns the contents of a file with these attributes and the blocks at these LBNs, in the requested form. A block past the image consists of
+/// zeros.
 pub fn contents_of_blocks<'a>(
     alloc: Global,
     image: &'a Image,

@@ -1,4 +1,4 @@
-//! Which lines of a listing a path chooses.
+//! The lines of a listing that a path chooses.
 ghost use Rattle.std.specs.Prelude.{◌≡◌, ◌+◌, ◌<◌, List, IfOk, OnOk, MatchBool, IsSortedByKey, Some, length, slice_get, take, unwrap_or};
 ghost use Rattle.ods_paths.specs.{Order.listing_cmp, Views.files as said};
 ghost use Rattle.ods_walk.specs.Listing.{shown};
@@ -8,8 +8,8 @@ use ods_base::{Listed, Name, print_title, print_type};
 use ods_paths::{Files, Versions, matches};
 use std::alloc::{AllocError, Global};
 
-/// The lines that a path chooses, in their order: those whose name and type its patterns match, and of each name the versions that it
-/// says, or where it says none those of `unsaid`. The lines are those of one directory, in the order of a listing.
+/// Returns the lines that a path chooses, in their order. Its patterns match their names and types, and its versions, or otherwise `unsaid`, select
+/// their versions. The lines belong to one directory, in the order of a listing.
 pub(crate) fn chosen(
     alloc: Global,
     lines: &[Listed],
@@ -61,7 +61,7 @@ fn is_chosen(
     is_matched(&line.name, files) && is_picked(lines, place, line, files.versions.unwrap_or(unsaid))
 }
 
-/// Whether the patterns match the name.
+/// Returns whether the patterns match the name.
 pub(crate) fn is_matched(name: &Name, files: &Files<'_>) -> bool
     ensures { MatchBool result (IsMatched (said files.now) name.now) (¬ IsMatched (said files.now) name.now) }
 {
@@ -69,7 +69,7 @@ pub(crate) fn is_matched(name: &Name, files: &Files<'_>) -> bool
         && matches(files.kind, print_type(name).as_bytes())
 }
 
-/// Whether the version of this line, which stands at this place, is picked.
+/// Returns whether the version of this line, at this index, is picked.
 pub(crate) fn is_picked(lines: &[Listed], place: usize, line: &Listed, versions: Versions) -> bool
     requires sorted { IsSortedByKey shown listing_cmp lines.now }
     requires there { slice_get lines.now place ≡ Some line.now }
@@ -83,8 +83,8 @@ pub(crate) fn is_picked(lines: &[Listed], place: usize, line: &Listed, versions:
     }
 }
 
-/// Whether no line of the name has a higher version than this one, which stands at this place. Lines of one name follow one another, and
-/// their versions fall.
+/// Returns whether no line of the name has a higher version than this one, at this index. The lines of a name are consecutive, in descending order
+/// of their versions.
 pub(crate) fn is_highest(lines: &[Listed], place: usize, line: &Listed) -> bool
     requires sorted { IsSortedByKey shown listing_cmp lines.now }
     requires there { slice_get lines.now place ≡ Some line.now }

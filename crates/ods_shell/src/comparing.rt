@@ -1,4 +1,4 @@
-//! Whether files of two volumes have the same bytes.
+//! The comparison of the bytes of files on two volumes.
 ghost use Rattle.std.specs.Prelude.{◌≡◌, ◌↔◌, ◌⊎◌, ℕ, List, IsTrue, IfOk, IfErr, Some};
 ghost use Rattle.ods_files.specs.Body.{bytes_in};
 ghost use Rattle.ods_shell.specs.Compared.{AreCompared, HasCompared, HasNone};
@@ -11,8 +11,8 @@ use ods_files::{FileBody, Form};
 use ods_space::Disk;
 use std::alloc::Global;
 
-/// Whether two files have the same bytes: those up to the end of file, or of all blocks where that lies past them. `NoSuchFile` where one
-/// of them is no file.
+/// Returns whether two files have the same bytes, up to their end of file, or in all blocks if the end is past them. The error is `NoSuchFile` if
+/// the number of one is not the number of a file.
 pub fn have_same_bytes(
     alloc: Global,
     one: &Disk<'_>,

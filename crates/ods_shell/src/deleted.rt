@@ -1,4 +1,4 @@
-//! What is known of deleted files whose headers are still there, found by the name in their ident.
+//! The facts of deleted files whose headers are still present, found by the name in their ident.
 ghost use Rattle.std.specs.Prelude.{◌≡◌, ◌⊎◌, ◌++◌, ◌∷◌, [], IfOk, IfSome, OnOk, MatchBool, MatchOption, option_map};
 ghost use Rattle.ods_header.specs.Header.{IsLaidOut};
 ghost use Rattle.ods_base.specs.Block.{word as word_in};
@@ -20,28 +20,28 @@ use ods_remains::{Shares, Summary, deleted_header, ident_word, is_deleted_file, 
 use ods_space::{Disk, last_number};
 use std::alloc::{AllocError, Global};
 
-/// What is known of a deleted file.
+/// The facts of a deleted file.
 #[derive(Clone, Copy, Debug)]
 pub struct Deletion {
     pub file: FileId,
     /// The ident area of its first header: name, revision and dates.
     pub ident: [u8; 46],
-    /// How many blocks its headers name.
+    /// The number of blocks that its headers name.
     pub blocks: u32,
-    /// The bytes up to the end of file; those of all blocks where the attributes are zeros.
+    /// The number of bytes up to the end of file, or in all blocks if the attributes are zeros.
     pub bytes: u64,
-    /// How many of its blocks are used again.
+    /// The number of its blocks that are used again.
     pub used: u32,
-    /// The first of its headers that is missing, where the first of all is 1.
+    /// The index of its first missing header, if one is missing. The first header has index 1.
     pub missing: Option<u64>,
-    /// A deleted file that shares blocks with it: itself, where it names a block twice and no other file names one.
+    /// The ID of a deleted file that shares blocks with it. It is the file itself if the file names a block twice and no other file names one.
     pub sharer: Option<FileId>,
-    /// Whether no header is missing, and each block is free and named by this file alone and once.
+    /// Whether no header is missing, and each block is free and named once, only by this file.
     pub whole: bool,
 }
 
-/// What is known of each deleted file that is looked for: of all, where no files are said. Each header is read a few times, however many
-/// files share it.
+/// Returns the facts of each deleted file that `files` selects, or of all if it is `None`. Each header is read a few times, even if many files
+/// share it.
 pub fn known_deletions(
     alloc: Global,
     disk: &Disk<'_>,
@@ -80,7 +80,7 @@ fn add_sought(
     Ok(())
 }
 
-/// What is known of the deleted file with this number, where there is one.
+/// Returns the facts of the deleted file with this number, if there is one.
 pub fn known_deletion(
     alloc: Global,
     disk: &Disk<'_>,
@@ -98,7 +98,7 @@ pub fn known_deletion(
     }
 }
 
-/// What is known of the deleted file with this number.
+/// Returns the facts of the deleted file with this number.
 pub(crate) fn known(
     alloc: Global,
     disk: &Disk<'_>,
@@ -149,7 +149,7 @@ fn id_of_sharer(disk: &Disk<'_>, sharer: Option<u16>) -> Option<FileId>
     }
 }
 
-/// The ID of the deleted header with this number.
+/// Returns the ID of the deleted header with this number.
 pub(crate) fn deleted_id(disk: &Disk<'_>, number: u16) -> FileId
     requires { on IsDeleted disk.now number }
     ensures { result ≡ seen id_of_deleted disk.now number }

@@ -1,4 +1,4 @@
-//! The lines and the objects of `find --deleted`.
+//! The lines and the JSON objects of `find --deleted`.
 ghost use Rattle.std.specs.Prelude.{◌≡◌, ◌++◌, false, true, Some, IfOk, OnOk};
 ghost use Rattle.std.specs.String.{string_bytes};
 ghost use Rattle.ods_shell.specs.Deletions.{count_text, cut_part, date_column, deletion_line, deletion_lines as lines_of_all, deletion_members, deletion_objects as objects_of_all, name_columns, shared_label, shared_part, state_part, state_word, used_label, used_part, used_text, with_missing, with_sharer};
@@ -18,7 +18,7 @@ use ods_header::print_ident;
 use serde_json::{Map, Value};
 use std::alloc::{AllocError, Global};
 
-/// A line for each of these deleted files.
+/// Returns a line for each of these deleted files.
 pub fn deletion_lines(alloc: Global, all: &[Deletion], long: bool) -> Result<String, AllocError>
     ensures { IfOk result (λ text. string_bytes text ≡ lines_of_all long all.now) }
 {
@@ -179,7 +179,7 @@ fn before_sharer() -> &'static str
     "  shares blocks with "
 }
 
-/// An object for each of these deleted files.
+/// Returns a JSON object for each of these deleted files.
 pub fn deletion_objects(alloc: Global, image: &str, all: &[Deletion]) -> Result<String, AllocError>
     ensures { IfOk result (λ text. string_bytes text ≡ objects_of_all image.now all.now) }
 {

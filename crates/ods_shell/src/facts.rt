@@ -1,4 +1,4 @@
-//! What is known of a file: the fields of its first header, how many blocks it has, and how many bytes.
+//! The facts of a file: the fields of its first header, and its numbers of blocks and bytes.
 ghost use Rattle.std.specs.Prelude.{◌≡◌, ◌≢◌, ◌≤◌, ◌+◌, ℕ, List, slice_range, MatchOption};
 ghost use Rattle.ods_header.specs.Header.{IsLaidOut};
 ghost use Rattle.ods_files.specs.Body.{are_zeros as all_zeros};
@@ -14,21 +14,21 @@ use ods_header::{
 use ods_records::{end_of_file, is_controlled, kind_of};
 use ods_space::{Disk, Reach, count_reach, primary_header};
 
-/// What a file holds, by its header.
+/// The kind of the contents of a file, by its header.
 #[derive(Clone, Copy, Debug, PartialEq, Eq)]
 pub enum Kind {
     /// A directory.
     Directory,
-    /// Records with a length, each a line by its carriage control.
+    /// Records with a length. The carriage control makes each record a line.
     Text,
-    /// Records with a length, and no carriage control.
+    /// Records with a length and without carriage control.
     Records,
     /// Bytes: neither a directory nor records with a length.
     Binary,
 }
 
 impl Kind {
-    /// The word for it.
+    /// Returns the word for the kind.
     pub fn word(&self) -> &'static str
         ensures { result.now ≡ kind_word self.now }
     {
@@ -41,19 +41,19 @@ impl Kind {
     }
 }
 
-/// How much of a file is there.
+/// The part of a file that is present.
 #[derive(Clone, Copy, Debug, PartialEq, Eq)]
 pub enum Condition {
-    /// All: each header of its chain, and each block.
+    /// All of it: each header of its chain, and each block.
     Whole,
     /// A header of its chain is missing.
     Broken,
-    /// Each header is there, and a block lies past the image.
+    /// Each header is present, and a block is past the image.
     Outside,
 }
 
 impl Condition {
-    /// The word for it. A file that is whole has none.
+    /// Returns the word for the condition. The word for a whole file is empty.
     pub fn word(&self) -> &'static str
         ensures { result.now ≡ condition_word self.now }
     {
@@ -65,15 +65,15 @@ impl Condition {
     }
 }
 
-/// What is known of a file.
+/// The facts of a file.
 #[derive(Clone, Copy, Debug)]
 pub struct Facts {
     pub file: FileId,
     pub kind: Kind,
     pub condition: Condition,
-    /// The blocks that the headers name which are there.
+    /// The number of blocks that the present headers name.
     pub blocks: u32,
-    /// The bytes up to the end of file; those of all blocks where the attributes are zeros.
+    /// The number of bytes up to the end of file, or in all blocks if the attributes are zeros.
     pub bytes: u64,
     pub owner: Uic,
     pub protection: u16,
@@ -81,11 +81,11 @@ pub struct Facts {
     pub system_char: u8,
     /// The ident area: name, revision and dates.
     pub ident: [u8; 46],
-    /// The record attributes, F.RTYP first.
+    /// The record attributes; F.RTYP is first.
     pub attributes: [u8; 32],
 }
 
-/// What is known of the file with this number; `None` where it is no file.
+/// Returns the facts of the file with this number; `None` if it is not the number of a file.
 pub fn facts_of(disk: &Disk<'_>, number: u16) -> Option<Facts>
     requires { on FindsFiles disk.now }
     ensures { MatchOption result (¬ on IsFile disk.now number) (on AreFacts disk.now number) }
@@ -112,7 +112,7 @@ fn condition_in(reach: &Reach) -> Condition
     }
 }
 
-/// What is known of the file with this ID; `None` where it is that of no file.
+/// Returns the facts of the file with this ID; `None` if it is not the ID of a file.
 pub fn facts_by_id(disk: &Disk<'_>, file: FileId) -> Option<Facts>
     requires { on FindsFiles disk.now }
     ensures { MatchOption result ((facts : Facts) → on AreFacts disk.now file.number facts → facts.file ≢ file)
@@ -124,7 +124,7 @@ pub fn facts_by_id(disk: &Disk<'_>, file: FileId) -> Option<Facts>
     }
 }
 
-/// What a first header says of the file with this number, of which so many blocks are there.
+/// Returns the facts of the file with this number from its first header. `blocks` is the number of its blocks.
 pub(crate) fn facts_in(number: u16, header: &Block, blocks: u32, condition: Condition) -> Facts
     requires { IsLaidOut header.now }
     ensures { result ≡ facts_shown number header.now blocks condition }
@@ -167,7 +167,7 @@ fn kind_by(number: u16, header: &Block) -> Kind
     }
 }
 
-/// How many bytes a file has.
+/// Returns the number of bytes of a file.
 pub(crate) fn size(attributes: &[u8; 32], blocks: u32) -> u64
     ensures { result ≡ bytes_by attributes.now blocks }
 {
@@ -186,21 +186,21 @@ fn are_zeros(attributes: &[u8; 32]) -> bool
 }
 
 impl Facts {
-    /// Whether nothing was ever written into the attributes.
+    /// Returns whether the attributes are all zeros, so that nothing was ever written into them.
     pub fn has_no_attributes(&self) -> bool
         ensures { result ≡ all_zeros self.now.attributes }
     {
         are_zeros(&self.attributes)
     }
 
-    /// The date and time of creation: `01JAN80` and `103000`.
+    /// Returns the date and time of creation, such as `01JAN80` and `103000`.
     pub fn creation_date(&self) -> [u8; 13]
         ensures { result ≡ created_in self.now.ident }
     {
         self.date_at(25)
     }
 
-    /// The date and time of the last revision.
+    /// Returns the date and time of the last revision.
     pub fn revision_date(&self) -> [u8; 13]
         ensures { result ≡ revised_in self.now.ident }
     {
@@ -217,7 +217,7 @@ impl Facts {
         date
     }
 
-    /// How often the file was revised.
+    /// Returns the number of revisions of the file.
     pub fn revision(&self) -> u16
         ensures { result ≡ revision_in self.now.ident }
     {

@@ -1,4 +1,4 @@
-//! Files by their numbers: of each that is there one name, in a directory as near to the master directory as any.
+//! One name of each file by its number, in a directory as near to the master directory as possible.
 ghost use Rattle.std.specs.Prelude.{◌≡◌, ◌≢◌, ◌⊎◌, ◌+◌, ◌<◌, [], ◌∷◌, ℕ, None, Some, IfOk, MatchOption, OnOk, length, option_map, slice_index_or, slice_set, string_bytes};
 ghost use Rattle.ods_mount.specs.Faults.{IsDirectoryFile};
 ghost use Rattle.ods_walk.specs.{Complete.AreReached, Listing.IsListing, Paths.number_at};
@@ -16,7 +16,7 @@ use ods_walk::{Line, Walk, enter_all};
 use std::alloc::{AllocError, Global};
 use std::marker::Model;
 
-/// The files to which names lead from the master directory, each with one of its names. It keeps a line for each number, whatever the volume has.
+/// The files that paths from the master directory reach, each with one of its names. Keeps a line for each number, whatever the volume has.
 #[derive(Drop)]
 pub struct FileNames {
     walk: Walk,
@@ -37,7 +37,7 @@ impl FileNames {
     ghost use Rattle.ods_shell.specs.ByNumber.{AreNames, path_by, path_noted};
     ghost use Rattle.ods_space.specs.Disks.{on};
 
-    /// The names of the files of a volume, sound or refused; `None` where it has no master directory.
+    /// Collects the names of the files of a volume, sound or refused. Returns `None` if the volume has no master directory.
     pub fn of(alloc: Global, disk: &Disk<'_>) -> Result<Option<FileNames>, AllocError>
         ensures { IfOk result (λ found. MatchOption found (¬ on IsDirectoryFile disk.now 4) (on AreNames disk.now)) }
     {
@@ -50,7 +50,7 @@ impl FileNames {
         Ok(Some(FileNames { walk, first }))
     }
 
-    /// The path of the file with this number, where one is noted.
+    /// Returns the path of the file with this number, if one is noted.
     pub fn path(&self, alloc: Global, number: u16) -> Result<Option<String>, AllocError>
         ensures { IfOk result (λ path. option_map string_bytes path ≡ path_noted self.now number) }
     {

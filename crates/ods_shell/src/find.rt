@@ -1,4 +1,4 @@
-//! The lines of `find`: every file with its path, or `-` where no walk over the directories reaches it.
+//! The lines of `find`: every file with its path, or with `-` if no walk over the directories reaches it.
 ghost use Rattle.std.specs.Prelude.{◌≡◌, ◌↔◌, ◌⊎◌, ◌<◌, ◌++◌, List, map, false, true, IsTrue, IfOk, MatchOption, OnOk, slice_index_or, slice_set};
 ghost use Rattle.std.specs.List.{flat_map};
 ghost use Rattle.std.specs.String.{string_bytes};
@@ -22,7 +22,7 @@ use ods_space::{Disk, last_number, primary_header};
 use ods_walk::Line;
 use std::alloc::{AllocError, Global};
 
-/// A line for each path that was found: the ID, and the path.
+/// Returns a line with the ID and the path for each found path.
 pub fn find_lines(alloc: Global, found: &FoundLines) -> Result<String, AllocError>
     ensures { IfOk result (λ text. string_bytes text ≡ flat_map (found_line found.now.directories.items) found.now.lines.items) }
 {
@@ -43,7 +43,7 @@ fn push_found(text: &mut String, directories: &[Directory], line: &Line) -> Resu
     text.push_str("\n")
 }
 
-/// The path of a line, by the directory that it stands in.
+/// Appends the path of a line, by the directory that contains it.
 pub fn push_path_of(
     text: &mut String,
     directories: &[Directory],
@@ -64,7 +64,7 @@ fn push_path_in(text: &mut String, directory: &Directory, entry: &Listed) -> Res
     push_path(text, &directory.names, entry)
 }
 
-/// A line for each file of which no line that was found has the ID: the ID, and `-`.
+/// Returns a line with the ID and `-` for each file whose ID is in no found line. With `json`, an object replaces the line.
 pub fn unreached_lines(
     alloc: Global,
     disk: &Disk<'_>,
@@ -82,7 +82,8 @@ pub fn unreached_lines(
     unnamed_lines(alloc, disk, &is_reached, json, image)
 }
 
-/// A line for each file that no line of any directory names, whether a walk reaches that or not.
+/// Returns a line for each file that no line of any directory names. It does not matter whether a walk reaches the directory. With `json`, an
+/// object replaces the line.
 pub fn lost_lines(
     alloc: Global,
     disk: &Disk<'_>,
@@ -202,7 +203,7 @@ fn unnoted(disk: &Disk<'_>, number: u16, is_named: &[bool]) -> Option<FileId>
     id_of_file(disk, number)
 }
 
-/// Whether a number is noted.
+/// Returns whether a number is noted.
 pub(crate) fn is_noted(flags: &[bool], number: u16) -> bool
     ensures { result ≡ slice_index_or flags.now number false }
 {
@@ -232,7 +233,7 @@ fn id_of_file(disk: &Disk<'_>, number: u16) -> Option<FileId>
     }
 }
 
-/// Whether there is a file with this ID.
+/// Returns whether there is a file with this ID.
 pub fn is_there(disk: &Disk<'_>, file: FileId) -> bool
     ensures { IsTrue result ↔ on IsThere disk.now file }
 {

@@ -1,4 +1,4 @@
-//! The lines that a path finds in directories.
+//! The directory lines that a path finds.
 ghost use Rattle.std.specs.Prelude.{◌≡◌, ◌++◌, ℕ, List, [], map, IfOk, OnOk};
 ghost use Rattle.ods_paths.specs.Views.{folder as said_folder, said_files};
 ghost use Rattle.ods_shell.specs.Found.{AreFound, AreFoundIn, placed};
@@ -13,8 +13,8 @@ use ods_space::Disk;
 use ods_walk::Line;
 use std::alloc::{AllocError, Global};
 
-/// What a path finds: directories, and lines of them in the order of the directories and of their listings. A line says its directory by
-/// the place among these.
+/// The result of a path: directories, and their lines in the order of the directories and of their listings. A line states its directory by the
+/// index in this list.
 #[derive(Drop, Debug)]
 pub struct FoundLines {
     pub directories: Vec<Directory>,
@@ -23,8 +23,8 @@ pub struct FoundLines {
     pub closed: Vec<Directory>,
 }
 
-/// The lines that a path finds; with no files said all of its directories. `unsaid` are the versions that are meant where the path
-/// says none. Of these closed directories no names are read: nothing is found in them, nor by their names.
+/// Returns the lines that a path finds, or all lines of its directories if `files` is `None`. `unsaid` is the default version. No names in the
+/// `closed` directories are read, so nothing is found in them or through their names.
 pub fn find_open(
     alloc: Global,
     disk: &Disk<'_>,
@@ -55,7 +55,7 @@ pub fn find_open(
     })
 }
 
-/// The directories that a folder means, where none is closed. No names in them are read.
+/// Returns the directories that a folder selects, if none is closed. Reads no names in them.
 pub(crate) fn find_directories(
     alloc: Global,
     disk: &Disk<'_>,

@@ -1,4 +1,4 @@
-//! The directories that the folder of a path means.
+//! The directories that the folder of a path selects.
 ghost use Rattle.std.specs.Prelude.{◌≡◌, ◌==◌, ◌++◌, ◌∷◌, ℕ, List, [], false, true, IfOk, OnOk, MatchBool, MatchOption, IsSortedByKey};
 ghost use Rattle.std.specs.List.{list_any};
 ghost use Rattle.ods_paths.specs.{Order.listing_cmp, Views.folder as said_folder};
@@ -20,14 +20,14 @@ use std::alloc::{AllocError, Global};
 /// The number of the master directory.
 pub const MASTER: u16 = 4;
 
-/// A directory: the number of its file, and the names that lead to it from the master directory.
+/// A directory: the number of its file, and the names on the path from the master directory to it.
 #[derive(Drop, Debug)]
 pub struct Directory {
     pub number: u16,
     pub names: Vec<Name>,
 }
 
-/// Directories of which no names are read, and those of them that were met.
+/// Directories whose names are not read, and the ones that were met.
 #[derive(Drop)]
 pub(crate) struct Closed<'a> {
     pub numbers: &'a [u16],
@@ -35,7 +35,7 @@ pub(crate) struct Closed<'a> {
 }
 
 impl Closed<'_> {
-    /// Whether the directory with this number is closed, which is noted then.
+    /// Returns whether the directory with this number is closed, and notes it as met in that case.
     pub fn stops(&mut self, alloc: Global, number: u16, names: &[Name]) -> Result<bool, AllocError>
         ensures value { IfOk result (λ stopped. stopped ≡ list_any (λ n. n == number) self.old.numbers.now) }
         ensures same { self.new.numbers ≡ self.old.numbers }
@@ -55,7 +55,7 @@ impl Closed<'_> {
     }
 }
 
-/// The lines of a directory, in the order of a listing; none where the number is that of no directory.
+/// Returns the lines of a directory, in the order of a listing. Returns none if the number is not the number of a directory.
 pub fn lines_of(alloc: Global, disk: &Disk<'_>, number: u16) -> Result<Vec<Listed>, AllocError>
     ensures there { IfOk result (λ lines. on IsDirectoryFile disk.now number → on IsListing disk.now number lines.items) }
     ensures none { IfOk result (λ lines. ¬ on IsDirectoryFile disk.now number → lines.items ≡ []) }
@@ -67,7 +67,7 @@ pub fn lines_of(alloc: Global, disk: &Disk<'_>, number: u16) -> Result<Vec<Liste
     listing(alloc, disk, number)
 }
 
-/// Whether the number is that of a directory.
+/// Returns whether the number belongs to a directory.
 pub fn is_directory_file(disk: &Disk<'_>, number: u16) -> bool
     ensures { MatchBool result (on IsDirectoryFile disk.now number) (¬ on IsDirectoryFile disk.now number) }
 {
@@ -77,7 +77,7 @@ pub fn is_directory_file(disk: &Disk<'_>, number: u16) -> bool
     }
 }
 
-/// The number of the directory that an entry names; `None` where it names none.
+/// Returns the number of the directory that an entry names; `None` if it does not name a directory.
 pub(crate) fn directory_of(disk: &Disk<'_>, entry: &Listed) -> Option<u16>
     ensures { MatchOption result (¬ on NamesDirectory disk.now entry.now)
         (λ number. on NamesDirectory disk.now entry.now × (number ≡ entry.now.file.number)) }
@@ -89,7 +89,7 @@ pub(crate) fn directory_of(disk: &Disk<'_>, entry: &Listed) -> Option<u16>
     }
 }
 
-/// The directories that a path means, in the order of a walk, but for closed ones. Of these no names are read.
+/// Returns the directories that a path selects, in the order of a walk, without closed ones. Reads no names in closed directories.
 pub(crate) fn directories(
     alloc: Global,
     disk: &Disk<'_>,
@@ -144,7 +144,7 @@ fn add_open(
     Ok(())
 }
 
-/// The master directory.
+/// Returns the master directory.
 pub(crate) fn master(alloc: Global) -> Directory
     ensures number { result.number ≡ 4 }
     ensures names { result.names.items ≡ [] }

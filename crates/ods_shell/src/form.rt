@@ -1,4 +1,4 @@
-//! What is got out of a file: its bytes as they are, or a text of it.
+//! The contents of a file: its bytes unchanged, or a text of it.
 ghost use Rattle.std.specs.Prelude.{◌≡◌, ◌⊎◌, ℕ, List, take, IfOk, IfErr, OnOk, IfSome, IfNone, Some, None};
 ghost use Rattle.std.specs.Io.KnownBytes.{Appends};
 ghost use Rattle.ods_base.specs.Image.{TookBytes};
@@ -23,29 +23,29 @@ use std::fmt;
 use std::io::Write;
 use thiserror::Error;
 
-/// Why nothing is got out of a file.
+/// The reason why the contents of a file are refused.
 #[derive(Clone, Copy, Debug, PartialEq, Eq, Error)]
 pub enum FormFault {
-    /// The number is no file.
+    /// The number is not the number of a file.
     #[error("no such file")]
     NoSuchFile,
     /// A header of its chain is missing.
-    #[error("its headers do not go on as they say")]
+    #[error("its header chain is broken")]
     BadChain,
-    /// Its headers name this block, which lies past the image.
-    #[error("it goes on behind the end of the image, with block {0}")]
+    /// Its headers name this block, which is past the image.
+    #[error("it uses block {0}, which is past the end of the image")]
     OutsideVolume(u32),
-    /// The end of file lies past the blocks, and not all blocks are asked for.
-    #[error("its end lies past its blocks")]
+    /// The end of file is past the blocks, and not all blocks are requested.
+    #[error("its end of file is past its last block")]
     EndPastBlocks,
-    /// The records have this first fault.
+    /// The first fault of the records.
     #[error("{0}")]
     Records(RecordFault),
-    /// Records of one size that do not go on in the next block, of so many bytes.
+    /// Fixed-length records of this many bytes that do not cross a block boundary are longer than a block.
     #[error("records of {0} bytes do not fit in a block")]
     TooLongForBlock(u16),
     /// The allocator refused memory.
-    #[error("no memory")]
+    #[error("out of memory")]
     NoMemory,
 }
 
@@ -57,17 +57,17 @@ impl From<AllocError> for FormFault {
     }
 }
 
-/// What is to be said of what is got.
+/// A remark on extracted contents.
 #[derive(Clone, Copy, Debug, PartialEq, Eq)]
 pub enum Remark {
-    /// Records that are no text are got as bytes, where no form is asked for: the first four bytes of the attributes, by which
-    /// `put -b --form` takes these bytes back.
+    /// The records are not a valid text, so the contents are bytes, and no form was requested. `put -b --form` stores the bytes again with the
+    /// first four bytes of the attributes.
     NoText([u8; 4]),
-    /// Records that are no text are got as bytes, and no form that can be said takes them back.
+    /// The records are not a valid text, so the contents are bytes. No form that can be specified stores them again.
     NoForm,
-    /// Nothing was ever written into the attributes.
+    /// The attributes are all zeros, so nothing was ever written into them.
     NoAttributes,
-    /// The file ends at 0, and has blocks.
+    /// The file ends at byte 0, and has blocks.
     NoEnd,
 }
 
@@ -78,38 +78,44 @@ impl fmt::Display for Remark {
                 let form = print_form(form);
                 write!(
                     f,
-                    "records that are no text, got as bytes; put -b --form {form} brings them back"
+                    "its records are not text, so it is copied as bytes; put -b --form {form} restores the records"
                 )
             }
-            Remark::NoForm => f.write_str("records that are no text, got as bytes"),
+            Remark::NoForm => f.write_str("its records are not text, so it is copied as bytes"),
             Remark::NoAttributes => {
-                f.write_str("nothing says where it ends, so all blocks are got")
+                f.write_str("its attributes do not state its end, so all blocks are copied")
             }
-            Remark::NoEnd => f.write_str("it ends at 0 and has blocks; --raw gets them"),
+            Remark::NoEnd => f.write_str(
+                "its end of file is 0, but it has blocks; --raw copies them",
+            ),
         }
     }
 }
 
-/// The bytes of what is got out of a file.
+/// The bytes of the extracted contents.
 #[derive(Drop)]
 pub enum Contents<'a> {
-    /// Those of a text.
+    /// The bytes of a text.
     Lines(Vec<u8>),
-    /// Those of its blocks, in a form in which it has some.
+    /// The bytes of its blocks, in a form that yields some.
     Body(FileBody<'a>, Form),
 }
 
-/// What is got out of a file, and what is to be said of it.
+/// The extracted contents of a file, and a remark on them.
 #[derive(Drop)]
 pub struct Got<'a> {
     pub contents: Contents<'a>,
     pub remark: Option<Remark>,
 }
 
-/// What is got out of the file with this number in the form that is asked for. `NoSuchFile` where it is no file. `BadChain` and
-/// `OutsideVolume` where its chain is not whole. `EndPastBlocks` where its end lies past its blocks, and not all of these are asked for.
-/// `Records` with the first fault of its records where these are read. `TooLongForBlock` where a text is asked for, and records of one size
-/// that keep to their blocks are longer than one.
+/// Returns the contents of the file with this number, in the requested form. The errors are:
+///
+/// - `NoSuchFile`: the number is not the number of a file.
+/// - `BadChain`, `OutsideVolume`: its chain is not whole.
+/// - `EndPastBlocks`: its end is past its blocks, and not all blocks are requested.
+/// - `Records`: the first fault of its records, if they are read.
+/// - `TooLongForBlock`: a text is requested, and fixed-length records that do not cross a block boundary are longer than a block.
+/// - `NoMemory`: out of memory.
 pub fn open_contents<'a>(
     alloc: Global,
     disk: &Disk<'a>,
@@ -129,7 +135,7 @@ pub fn open_contents<'a>(
     }
 }
 
-/// The body of the file with this number.
+/// Returns the body of the file with this number.
 pub(crate) fn body_of<'a>(
     alloc: Global,
     disk: &Disk<'a>,
@@ -150,7 +156,7 @@ pub(crate) fn body_of<'a>(
     }
 }
 
-/// What is got out of a file with this body in the form that is asked for.
+/// Returns the contents of a file with this body, in the requested form.
 pub(crate) fn contents_of<'a>(
     alloc: Global,
     body: FileBody<'a>,
@@ -315,7 +321,7 @@ fn as_text<'a>(alloc: Global, body: FileBody<'a>) -> Result<Got<'a>, FormFault>
     })
 }
 
-/// The text of bytes up to the end of a file with these attributes; `None` where the bytes are their own text.
+/// Returns the text of the bytes up to the end of a file with these attributes; `None` if the bytes are their own text.
 pub(crate) fn text_in(
     alloc: Global,
     attributes: &[u8; 32],
@@ -389,7 +395,7 @@ fn bytes_to_end<'a>(alloc: Global, body: &FileBody<'a>) -> Result<Vec<u8>, FormF
 }
 
 impl<'a> Contents<'a> {
-    /// Writes all of it, in order. After a fault the writer has taken so many of the bytes.
+    /// Writes all contents in order. A fault states how many bytes the writer took.
     pub fn write_to<W: Write>(&self, writer: &mut W) -> Result<(), WriteFault>
         ensures ok { OnOk result ((bytes : List ℕ) → ContentsAre self.now bytes → Appends (W.contents writer.old) (W.contents writer.new) bytes) }
         ensures err { IfErr result (λ fault. (bytes : List ℕ) → ContentsAre self.now bytes

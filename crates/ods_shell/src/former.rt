@@ -1,4 +1,4 @@
-//! What is got out of a deleted file whose headers are still there: the blocks of its chain that are free.
+//! The contents of a deleted file whose headers are still present: the free blocks of its chain.
 ghost use Rattle.std.specs.Prelude.{◌≡◌, ◌≤◌, ℕ, List, false, true, length, map, not, IfOk, IfErr, MatchBool, MatchOption};
 ghost use Rattle.ods_files.specs.Body.{padded};
 ghost use Rattle.ods_remains.specs.Deleted.{IsDeleted, IsFormerFile, former as former_header};
@@ -25,23 +25,23 @@ use ods_space::{Disk, is_free, last_number};
 use std::alloc::{AllocError, Global};
 use std::fmt;
 
-/// A deleted file that is asked for by its ID.
+/// A deleted file that a path selects by its ID.
 #[derive(Drop)]
 pub struct Former {
-    /// The file, as a path names it by its ID.
+    /// The file, selected by its ID in a path.
     pub found: Found,
-    /// What is left of it.
+    /// The facts that remain of it.
     pub known: Deletion,
     /// Its headers, and the blocks that they name.
     pub file: DeletedFile,
 }
 
-/// Why nothing is got out of a deleted file.
+/// The reason why the contents of a deleted file are refused.
 #[derive(Clone, Copy, Debug)]
 pub enum FormerFault {
-    /// Parts are not asked for, and this is what is left of it.
+    /// Parts are not requested, and only these facts remain of the file.
     NotWhole(Deletion),
-    /// What is left of it has not the form that is asked for.
+    /// The remaining contents are not available in the requested form.
     Form(FormFault),
 }
 
@@ -68,10 +68,10 @@ fn write_lacking<W: fmt::Write>(f: &mut fmt::Formatter<W>, left: &Deletion) -> f
         let (number, sequence) = (file.number, file.sequence);
         write!(f, ", shares blocks with #{number},{sequence}")?;
     }
-    f.write_str("; --partial gets what is left")
+    f.write_str("; --partial copies what is left")
 }
 
-/// The deleted file with this ID. There is none where the ID is that of no deleted file.
+/// Returns the deleted file with this ID. Returns `None` if the ID is not the ID of a deleted file.
 pub fn find_former(
     alloc: Global,
     disk: &Disk<'_>,
@@ -157,9 +157,9 @@ fn condition_left(image: &Image, lbns: &[u32], is_cut: bool) -> Condition
     }
 }
 
-/// What is got out of a deleted file in the form that is asked for. `NotWhole` where it is not whole, and parts are not asked for. Of a part
-/// the blocks up to the first missing header come, with zeros for those that are used again or past the image; all of them where the end of
-/// file lies past these.
+/// Returns the contents of a deleted file in the requested form. The error is `NotWhole` if the file is not whole and parts are not requested. A
+/// part has the blocks up to the first missing header. Blocks that are used again or past the image are zeros. If the end of file is past the
+/// blocks, the part contains all of them.
 pub fn open_former<'a>(
     alloc: Global,
     disk: &Disk<'a>,

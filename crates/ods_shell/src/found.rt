@@ -1,4 +1,4 @@
-//! The files that a path names: the one finder of the commands that read and of those that change.
+//! The files that a path selects, for the commands that read and the commands that change.
 ghost use Rattle.std.specs.Prelude.{◌≡◌, ◌≢◌, ◌⊎◌, ◌++◌, ◌∷◌, ℕ, List, [], IfOk, IfErr, OnOk, Some, slice_get};
 ghost use Rattle.ods_paths.specs.{Paths.Said, Paths.Says, Views.files as said_files, Views.folder as said_folder};
 ghost use Rattle.ods_shell.specs.declared.facts.Facts.{Facts as Known};
@@ -23,40 +23,40 @@ use ods_space::{Disk, sequence};
 use ods_walk::Line;
 use std::alloc::{AllocError, Global};
 
-/// Where an entry stands: the directory, and the entry.
+/// The location of an entry: the directory, and the entry.
 #[derive(Clone, Copy)]
 pub struct EntryPlace {
     pub directory: FileId,
     pub entry: Listed,
 }
 
-/// What a path names: an entry, or a file by its ID.
+/// The selection of a path: an entry, or a file by its ID.
 #[derive(Drop)]
 pub struct Found {
-    /// Its path, as it is shown.
+    /// Its path, as commands show it.
     pub path: String,
-    /// The entry; `None` of a file that is named by its ID.
+    /// The entry; `None` for a file that the path selects by its ID.
     pub place: Option<EntryPlace>,
-    /// What is known of the file; `None` where the entry names no file.
+    /// The facts of the file; `None` if the entry names no file.
     pub facts: Option<Facts>,
 }
 
 impl Found {
-    /// The entry.
+    /// Returns the entry.
     pub fn place(&self) -> Option<EntryPlace>
         ensures { result ≡ self.now.place }
     {
         self.place
     }
 
-    /// What is known of the file.
+    /// Returns the facts of the file.
     pub fn facts(&self) -> Option<Facts>
         ensures { result ≡ self.now.facts }
     {
         self.facts
     }
 
-    /// Whether it is passed over where all files are meant: a directory, or one of the volume's own files, 1 to 5.
+    /// Returns whether a selection of all files skips it: it is a directory, or one of the volume's own files, 1 to 5.
     pub fn is_passed_over(&self) -> bool
         ensures { result ≡ is_passed_over self.now.facts }
     {
@@ -70,8 +70,9 @@ impl Found {
 /// The number of the last of the volume's own files.
 const LAST_OWN: u16 = 5;
 
-/// What a path names, in the order of a listing. `unsaid` is what it means where it says no versions, and where it says directories alone; a path
-/// that has to say more is refused. Of these closed directories no names are read, and those that are on the way come back too.
+/// Returns the files that a path selects, in the order of a listing. `unsaid` gives the defaults: the versions, and the selection of a path that
+/// consists only of directories. A path that has to specify more is refused. No names in the `closed` directories are read, and the closed ones
+/// that are on the way are returned as well.
 pub fn find_path(
     alloc: Global,
     disk: &Disk<'_>,
@@ -127,7 +128,7 @@ fn named_by_id(alloc: Global, file: FileId, facts: Facts) -> Result<Vec<Found>, 
     Ok(all)
 }
 
-/// What names of files stand for in directories that a path says: as `find_path` finds it.
+/// Returns the files that file names select in these directories, as `find_path` returns them.
 pub fn find_names(
     alloc: Global,
     disk: &Disk<'_>,
@@ -195,7 +196,7 @@ fn add_line(
     Ok(())
 }
 
-/// What an entry of a directory names.
+/// Returns the file that an entry of a directory names.
 pub fn file_at(
     alloc: Global,
     disk: &Disk<'_>,

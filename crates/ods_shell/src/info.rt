@@ -1,4 +1,4 @@
-//! What `info` shows of a volume: the fields of its home block, and where its structures lie.
+//! The output of `info` for a volume: the fields of its home block, and the locations of its structures.
 ghost use Rattle.std.specs.Prelude.{◌≡◌, ◌≤◌, ◌+◌, ◌<◌, length, slice_range};
 ghost use Rattle.ods_base.specs.Image.{block_at};
 ghost use Rattle.ods_space.specs.Disks.{on, seen};
@@ -10,7 +10,7 @@ use ods_base::{Block, Uic, word};
 use ods_header::find_home;
 use ods_space::Disk;
 
-/// What is known of a volume, whether its files are sound or not.
+/// The facts of a volume, whether its files are sound or not.
 #[derive(Clone, Copy, Debug)]
 pub struct Info {
     /// The LBN of the home block.
@@ -23,23 +23,23 @@ pub struct Info {
     pub level: u16,
     /// H.DFPR: the protection word of new files.
     pub protection: u16,
-    /// The first 13 bytes of H.VDAT: when the volume was made.
+    /// The first 13 bytes of H.VDAT: the date of creation of the volume.
     pub made: [u8; 13],
-    /// All blocks of the volume.
+    /// The number of blocks of the volume.
     pub blocks: u32,
     /// H.FMAX: the greatest file number.
     pub most: u16,
-    /// The file numbers that a new header may get without growth of INDEXF.SYS.
+    /// The number of file numbers that a new header may receive without growth of INDEXF.SYS.
     pub ready: u32,
-    /// H.IBLB: the LBN of the index bitmap's first block.
+    /// H.IBLB: the LBN of the first block of the index bitmap.
     pub bitmap: u32,
-    /// H.IBSZ: how many blocks the index bitmap has.
+    /// H.IBSZ: the number of blocks of the index bitmap.
     pub bitmap_blocks: u16,
-    /// How many blocks INDEXF.SYS has.
+    /// The number of blocks of INDEXF.SYS.
     pub index_blocks: u64,
 }
 
-/// What is known of the volume on this disk.
+/// Returns the facts of the volume on this disk.
 pub fn volume_info(disk: &Disk<'_>) -> Info
     requires { on FindsFiles disk.now }
     ensures { on IsInfoOf disk.now result }

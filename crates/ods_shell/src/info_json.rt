@@ -1,4 +1,4 @@
-//! What `info` shows of a volume, as one object of JSON.
+//! The output of `info` for a volume as one JSON object.
 ghost use Rattle.std.specs.Prelude.{◌≡◌, ◌+◌, codes, false, IfOk, OnOk};
 ghost use Rattle.std.specs.String.{string_bytes};
 ghost use Rattle.serde_json.specs.View.{members_view};
@@ -14,7 +14,8 @@ use crate::texts::{date_text, push_user, rights_text};
 use serde_json::{Map, Value};
 use std::alloc::{AllocError, Global};
 
-/// An object of what is known of the volume in this image, whose INDEXF.SYS has these blocks. So many bytes of the image stand behind the volume, and this is what a mount answers.
+/// Returns a JSON object with the facts of the volume in this image. `index` has the LBNs of INDEXF.SYS, `behind` is the number of image bytes
+/// after the volume, and `answer` is the result of a mount.
 pub fn info_object(
     alloc: Global,
     image: &str,

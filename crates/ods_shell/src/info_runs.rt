@@ -1,4 +1,4 @@
-//! The runs of INDEXF.SYS as `info` shows them in an object of JSON.
+//! The runs of INDEXF.SYS, as `info` shows them in a JSON object.
 ghost use Rattle.std.specs.Prelude.{◌≡◌, ◌+◌, ◌++◌, ◌<◌, ◌≤◌, false, if◌then◌else◌, length, map, IfOk, OnOk};
 ghost use Rattle.std.specs.List.{flat_map, range_with_len};
 ghost use Rattle.serde_json.specs.Data.{object};
@@ -12,7 +12,7 @@ use crate::stat::ends_run;
 use serde_json::{Map, Value};
 use std::alloc::{AllocError, Global};
 
-/// Adds the runs of these blocks: an object for each, with the LBN of its first block, and how many it has.
+/// Adds the runs of these blocks: an object for each, with the LBN of its first block and its number of blocks.
 #[tactic(auto, using(crate::proofs::RunObjects::runs_put_plain))]
 pub(crate) fn add_runs(
     alloc: Global,

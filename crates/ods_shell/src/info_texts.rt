@@ -10,8 +10,8 @@ use crate::texts::{date_text, push_rights, push_some};
 use arrayvec::ArrayString;
 use std::alloc::{AllocError, Global};
 
-/// What is known of a volume, a field a line, with the blocks of INDEXF.SYS as runs. So many bytes of the image stand behind the volume, and this is
-/// what a mount answers.
+/// Returns the facts of a volume, one field per line, with the blocks of INDEXF.SYS as runs. `behind` is the number of image bytes after the
+/// volume, and `answer` is the result of a mount.
 pub fn info_lines(
     alloc: Global,
     info: &Info,
@@ -53,14 +53,14 @@ fn push_places(text: &mut String, info: &Info, index: &[u32]) -> Result<(), Allo
     push_runs(text, index)
 }
 
-/// The LBN behind the index bitmap.
+/// Returns the LBN after the index bitmap.
 pub(crate) fn behind_bitmap(info: &Info) -> u64
     ensures { result ≡ info.now.bitmap + info.now.bitmap_blocks }
 {
     u64::from(info.bitmap) + u64::from(info.bitmap_blocks)
 }
 
-/// The label as people are shown it: without the zero bytes and spaces behind it, and `?` for each byte that is no character.
+/// Returns the printable label: without trailing zero bytes and spaces, and with `?` for each byte that is not a character.
 pub fn label_text(label: &[u8; 12]) -> ArrayString<18>
     ensures { result.bytes ≡ shown_label label.now }
 {

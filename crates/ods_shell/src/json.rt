@@ -1,4 +1,4 @@
-//! What commands print as JSON: an object a line.
+//! The output of commands as JSON: one object per line.
 ghost use Rattle.std.specs.Prelude.{◌≡◌, ◌++◌, codes, false, Option, IfOk, OnOk};
 ghost use Rattle.std.specs.String.{string_bytes};
 ghost use Rattle.serde_json.specs.Data.{no_members, object, put};
@@ -25,7 +25,7 @@ use ods_walk::Line;
 use serde_json::{Map, Value};
 use std::alloc::{AllocError, Global};
 
-/// No members.
+/// Returns an empty object.
 pub(crate) fn no_fields(alloc: Global) -> Map<String, Value>
     ensures members { members_view result.entries ≡ no_members }
     ensures plain { members_have_float (members_view result.entries) ≡ false }
@@ -33,7 +33,7 @@ pub(crate) fn no_fields(alloc: Global) -> Map<String, Value>
     Map::new(alloc)
 }
 
-/// The one member that says which image an object is of.
+/// Returns an object with one member, the name of the image.
 pub(crate) fn fields_of_image(alloc: Global, image: &str) -> Result<Map<String, Value>, AllocError>
     ensures members { IfOk result (λ members. members_view members.entries ≡ of_image image.now) }
     ensures plain { IfOk result (λ members. members_have_float (members_view members.entries) ≡ false) }
@@ -59,7 +59,7 @@ pub(crate) fn add(
     }
 }
 
-/// Adds a text.
+/// Adds a text member.
 #[tactic(auto, using(crate::proofs::Objects::text_put_plain))]
 pub(crate) fn add_text(
     alloc: Global,
@@ -78,7 +78,7 @@ pub(crate) fn add_text(
     )
 }
 
-/// Adds a number.
+/// Adds a number member.
 #[tactic(auto, using(crate::proofs::Objects::number_put_plain))]
 pub(crate) fn add_number(
     alloc: Global,
@@ -101,7 +101,7 @@ fn object_text(alloc: Global, members: Map<String, Value>) -> Result<String, All
     object.to_string(alloc)
 }
 
-/// Appends an object, and a line feed.
+/// Appends an object and a line feed.
 #[tactic(auto, unfolding(crate::specs::Json::object_line))]
 pub(crate) fn push_object(
     alloc: Global,
@@ -114,7 +114,7 @@ pub(crate) fn push_object(
     text.push_str("\n")
 }
 
-/// An object with one text: `{"fault":".."}`.
+/// Returns an object with one text: `{"fault":".."}`.
 pub fn text_object(alloc: Global, name: &str, text: &str) -> Result<String, AllocError>
     ensures { IfOk result (λ line. string_bytes line ≡ text_line name.now text.now) }
 {
@@ -125,7 +125,7 @@ pub fn text_object(alloc: Global, name: &str, text: &str) -> Result<String, Allo
     Ok(line)
 }
 
-/// An object with one number.
+/// Returns an object with one number.
 pub fn number_object(alloc: Global, name: &str, number: u64) -> Result<String, AllocError>
     ensures { IfOk result (λ line. string_bytes line ≡ object_line (with_number name.now number no_members)) }
 {
@@ -136,7 +136,7 @@ pub fn number_object(alloc: Global, name: &str, number: u64) -> Result<String, A
     Ok(line)
 }
 
-/// An object of an image with a text and a number of blocks.
+/// Appends an object for an image with a text and a number of blocks.
 pub(crate) fn push_blocks(
     alloc: Global,
     text: &mut String,
@@ -153,7 +153,7 @@ pub(crate) fn push_blocks(
     push_object(alloc, text, members)
 }
 
-/// An object with two texts.
+/// Returns an object with two texts.
 pub fn pair_object(
     alloc: Global,
     name: &str,
@@ -171,7 +171,7 @@ pub fn pair_object(
     Ok(line)
 }
 
-/// An object with three texts.
+/// Returns an object with three texts.
 pub fn trio_object(
     alloc: Global,
     name: &str,
@@ -192,7 +192,7 @@ pub fn trio_object(
     Ok(line)
 }
 
-/// An object for each line that was found: its path, the ID that it names, and what is known of the file.
+/// Returns an object for each found line: its path, the ID that it names, and the facts of the file.
 pub fn ls_objects(
     alloc: Global,
     disk: &Disk<'_>,
@@ -314,7 +314,7 @@ fn add_condition(
     }
 }
 
-/// An object of what is known of a file that a path names.
+/// Returns an object with the facts of a file that a path selects.
 pub fn stat_object(alloc: Global, path: &str, facts: &Facts) -> Result<String, AllocError>
     ensures { IfOk result (λ line. string_bytes line ≡ object_line (stat_members path.now facts.now)) }
 {
@@ -335,7 +335,7 @@ pub fn stat_object(alloc: Global, path: &str, facts: &Facts) -> Result<String, A
     Ok(text)
 }
 
-/// An object of how much of a volume is used.
+/// Returns an object with the usage of a volume.
 pub fn space_object(alloc: Global, space: &Space) -> Result<String, AllocError>
     ensures { IfOk result (λ line. string_bytes line ≡ object_line (space_members space.now)) }
 {

@@ -1,4 +1,4 @@
-//! The entries of the directories to which a path leads, each in the directory above.
+//! The entries of the directories that a path reaches, each in its parent directory.
 ghost use Rattle.std.specs.Prelude.{◌≡◌, ◌++◌, ℕ, List, [], IfOk, OnOk};
 ghost use Rattle.ods_paths.specs.Views.{step as said_step, steps as said_steps};
 ghost use Rattle.ods_shell.specs.declared.found.Found.{Found as One};
@@ -16,7 +16,7 @@ use ods_paths::{Step, Steps};
 use ods_space::Disk;
 use std::alloc::{AllocError, Global};
 
-/// The entries by which a last step leads on from the directories to which the steps before it lead, and the closed directories on the way.
+/// Returns the entries that a last step selects in the directories that the steps before it reach, and the closed directories on the way.
 pub(crate) fn find_led(
     alloc: Global,
     disk: &Disk<'_>,

@@ -1,4 +1,4 @@
-//! The commands of `f11fs`: which files a path finds, what is known of each, and the text that a command prints.
+//! The commands of `f11fs`: the files that a path finds, the facts of each, and the text that a command prints.
 #![tactic(auto)]
 
 mod alone;

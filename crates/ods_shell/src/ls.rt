@@ -18,20 +18,20 @@ use ods_base::{Listed as Entry, Uic, print_name};
 use ods_space::Disk;
 use std::alloc::{AllocError, Global};
 
-/// What `ls` shows.
+/// The parts of the output of `ls`.
 #[derive(Clone, Copy, Debug, PartialEq, Eq)]
 pub struct Columns {
     /// ID, blocks, bytes, kind, owner, protection and date of creation.
     pub long: bool,
     /// The ID.
     pub ids: bool,
-    /// A line with its name before the lines of each directory.
+    /// A line with the name of a directory before its lines.
     pub headings: bool,
-    /// Such a line for a directory of which there are no lines, too.
+    /// Such a line even for a directory without lines.
     pub empty: bool,
 }
 
-/// The lines of what was found, and a last one with how many files and blocks these are.
+/// Returns the found lines, and a last line with the numbers of files and blocks.
 pub fn ls_lines(
     alloc: Global,
     disk: &Disk<'_>,
@@ -354,7 +354,7 @@ fn push_rights_and_date(text: &mut String, facts: &Facts) -> Result<(), AllocErr
     text.push_str(date_text(&facts.creation_date()).as_str())
 }
 
-/// How many blocks and bytes a file has, in columns.
+/// Appends the numbers of blocks and bytes of a file, in columns.
 #[tactic(auto, unfolding(crate::specs::Lines::size_columns, crate::specs::Lines::number_column))]
 pub(crate) fn push_sizes(text: &mut String, blocks: u32, bytes: u64) -> Result<(), AllocError>
     ensures { OnOk result (string_bytes text.new ≡ string_bytes text.old ++ size_columns blocks bytes) }

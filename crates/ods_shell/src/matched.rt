@@ -1,4 +1,4 @@
-//! The lines of a directory that files of a path choose: what their patterns do not match is left out before the rest is put in order.
+//! The lines of a directory that a path chooses. Lines that its patterns do not match are dropped before the rest is sorted.
 ghost use Rattle.std.specs.Prelude.{◌+◌, ◌<◌, ◌++◌, ◌∷◌, List, [], IfOk, OnOk, IsSortedByKey, Some, length, take};
 ghost use Rattle.ods_base.specs.declared.listed.Listed.{Listed as Entry};
 ghost use Rattle.ods_mount.specs.Faults.{IsDirectoryFile};
@@ -18,8 +18,7 @@ use ods_space::Disk;
 use ods_walk::{entries_of, in_order, shown_entries};
 use std::alloc::{AllocError, Global};
 
-/// The lines of a directory that files of a path choose, in the order of a listing. `unsaid` are the versions that are meant where the path
-/// says none.
+/// Returns the lines of a directory that the files of a path choose, in the order of a listing. `unsaid` is the default version.
 pub(crate) fn find_chosen(
     alloc: Global,
     disk: &Disk<'_>,

@@ -1,4 +1,4 @@
-//! The same on a sound volume: what a path finds and what is known of a file, in terms of the volume. There each chain is whole.
+//! The same functions for a sound volume, on which each chain is whole. Their contracts use the terms of the volume.
 ghost use Rattle.std.specs.Prelude.{◌≡◌, ◌≢◌, ◌⊎◌, ◌↔◌, ℕ, List, [], false, true, length, IfOk, IfErr, IsTrue, MatchOption, IsSortedByKey};
 ghost use Rattle.std.specs.String.{string_bytes};
 ghost use Rattle.ods_mount.specs.Faults.{IsDirectoryFile};
@@ -24,7 +24,7 @@ use ods_paths::{Files, Folder, Versions};
 use ods_records::Wanted;
 use std::alloc::{AllocError, Global};
 
-/// What is known of the file with this number; `None` where it is no file.
+/// Returns the facts of the file with this number; `None` if it is not the number of a file.
 pub fn facts_of(volume: &Mounted, number: u16) -> Option<Facts>
     ensures { MatchOption result ((facts : Known) → ¬ AreFacts volume.now.image volume.now.layout number facts) (AreFacts volume.now.image volume.now.layout number) }
 {
@@ -32,7 +32,7 @@ pub fn facts_of(volume: &Mounted, number: u16) -> Option<Facts>
     crate::facts::facts_of(&disk, number)
 }
 
-/// What is known of the file with this ID; `None` where it is that of no file.
+/// Returns the facts of the file with this ID; `None` if it is not the ID of a file.
 pub fn facts_by_id(volume: &Mounted, file: FileId) -> Option<Facts>
     ensures { MatchOption result ((facts : Known) → AreFacts volume.now.image volume.now.layout file.number facts → facts.file ≢ file)
         (λ facts. AreFacts volume.now.image volume.now.layout file.number facts × (facts.file ≡ file)) }
@@ -41,7 +41,7 @@ pub fn facts_by_id(volume: &Mounted, file: FileId) -> Option<Facts>
     crate::facts::facts_by_id(&disk, file)
 }
 
-/// The lines of a directory, in the order of a listing; none where the number is that of no directory.
+/// Returns the lines of a directory, in the order of a listing. Returns none if the number is not the number of a directory.
 pub fn lines_of(alloc: Global, volume: &Mounted, number: u16) -> Result<Vec<Listed>, AllocError>
     ensures there { IfOk result (λ lines. IsDirectoryFile volume.now.image volume.now.layout number → IsListing volume.now.image volume.now.layout number lines.items) }
     ensures none { IfOk result (λ lines. ¬ IsDirectoryFile volume.now.image volume.now.layout number → lines.items ≡ []) }
@@ -51,7 +51,7 @@ pub fn lines_of(alloc: Global, volume: &Mounted, number: u16) -> Result<Vec<List
     crate::folders::lines_of(alloc, &disk, number)
 }
 
-/// The lines that a path finds; with no files said all of its directories.
+/// Returns the lines that a path finds, or all lines of its directories if `files` is `None`.
 pub fn find_open(
     alloc: Global,
     volume: &Mounted,
@@ -69,7 +69,7 @@ pub fn find_open(
     crate::finding::find_open(alloc, &disk, folder, files, unsaid, closed)
 }
 
-/// The directories that a folder means.
+/// Returns the directories that a folder selects.
 pub fn find_directories(
     alloc: Global,
     volume: &Mounted,
@@ -81,7 +81,7 @@ pub fn find_directories(
     crate::finding::find_directories(alloc, &disk, folder)
 }
 
-/// What names of files stand for in directories that a path says.
+/// Returns the files that file names select in these directories.
 pub fn find_names(
     alloc: Global,
     volume: &Mounted,
@@ -100,7 +100,7 @@ pub fn find_names(
     crate::found::find_names(alloc, &disk, folder, files, unsaid, closed)
 }
 
-/// What a path names, in the order of a listing.
+/// Returns the files that a path selects, in the order of a listing.
 pub fn find_path(
     alloc: Global,
     volume: &Mounted,
@@ -118,7 +118,7 @@ pub fn find_path(
     crate::found::find_path(alloc, &disk, path, unsaid, closed)
 }
 
-/// What is got out of the file with this number in the form that is asked for. No file is refused for its chain.
+/// Returns the contents of the file with this number, in the requested form. No file is refused because of its chain.
 pub fn open_contents<'a>(
     alloc: Global,
     volume: &'a Mounted,
@@ -132,7 +132,7 @@ pub fn open_contents<'a>(
     crate::form::open_contents(alloc, &disk, number, wanted)
 }
 
-/// Whether two files have the same bytes.
+/// Returns whether two files have the same bytes.
 pub fn have_same_bytes(
     alloc: Global,
     one: &Mounted,
@@ -149,7 +149,7 @@ pub fn have_same_bytes(
     crate::comparing::have_same_bytes(alloc, &disk, number, &other_disk, other_number)
 }
 
-/// The lines of what was found, and a last one with how many files and blocks these are.
+/// Returns the found lines, and a last line with the numbers of files and blocks.
 pub fn ls_lines(
     alloc: Global,
     volume: &Mounted,
@@ -163,7 +163,7 @@ pub fn ls_lines(
     crate::ls::ls_lines(alloc, &disk, found, columns)
 }
 
-/// An object for each line that was found: its path, the ID that it names, and what is known of the file.
+/// Returns an object for each found line: its path, the ID that it names, and the facts of the file.
 pub fn ls_objects(
     alloc: Global,
     volume: &Mounted,
@@ -176,7 +176,7 @@ pub fn ls_objects(
     crate::json::ls_objects(alloc, &disk, found, image)
 }
 
-/// A line for each file of which no line that was found has the ID: the ID, and `-`.
+/// Returns a line with the ID and `-` for each file whose ID is in no found line. With `json`, an object replaces the line.
 pub fn unreached_lines(
     alloc: Global,
     volume: &Mounted,
@@ -191,7 +191,7 @@ pub fn unreached_lines(
     crate::find::unreached_lines(alloc, &disk, found, json, image)
 }
 
-/// A line for each file that no line of any directory names.
+/// Returns a line for each file that no line of any directory names. With `json`, an object replaces the line.
 pub fn lost_lines(
     alloc: Global,
     volume: &Mounted,
@@ -205,7 +205,7 @@ pub fn lost_lines(
     crate::find::lost_lines(alloc, &disk, json, image)
 }
 
-/// A line for each directory: the blocks of its files, and its name.
+/// Returns a line for each directory: the number of blocks of its files, and its name. With `json`, an object replaces the line.
 pub fn usage_lines(
     alloc: Global,
     volume: &Mounted,
@@ -219,7 +219,7 @@ pub fn usage_lines(
     crate::usage::usage_lines(alloc, &disk, found, json, image)
 }
 
-/// A line for each of the largest files, at most so many: its blocks, and its path.
+/// Returns a line for each of the largest files, at most `most`: its number of blocks, and its path. With `json`, an object replaces the line.
 pub fn largest_lines(
     alloc: Global,
     volume: &Mounted,

@@ -1,4 +1,4 @@
-//! The names that files get on a host.
+//! The names of files on a host.
 ghost use Rattle.std.specs.Prelude.{◌≡◌, ◌∷◌, ◌++◌, [], if◌then◌else◌, IfOk, OnOk};
 ghost use Rattle.std.specs.Fmt.{decimal};
 ghost use Rattle.std.specs.String.{string_bytes};
@@ -10,7 +10,7 @@ use ods_header::print_ident;
 use std::alloc::{AllocError, Global};
 
 impl Found {
-    /// The name of the file on a host: in small letters, with its version where that is asked for. A file that is named by its ID has the
+    /// Returns the name of the file on a host: in small letters, with its version if `with_version`. A file that a path selects by its ID has the
     /// name in its header.
     pub fn host_name(&self, alloc: Global, with_version: bool) -> Result<String, AllocError>
         ensures { IfOk result (λ text. IsHostName self.now.place self.now.facts with_version (string_bytes text)) }

@@ -1,4 +1,4 @@
-//! Why a path names no files, and the exit status for that.
+//! The reason why a path selects no files, and the exit status for it.
 ghost use Rattle.ods_shell.specs.Found.{HasPathStatus};
 
 use crate::status::Status;
@@ -6,29 +6,29 @@ use ods_paths::BadPath;
 use std::alloc::{AllocError, AllocFailed};
 use thiserror::Error;
 
-/// Why a path names no files.
+/// The reason why a path selects no files.
 #[derive(Clone, Copy, Debug, PartialEq, Eq, Error)]
 pub enum PathFault {
-    /// The text is no path.
+    /// The text is not a valid path.
     #[error("{0}")]
     Bad(BadPath),
-    /// A directory, and no file in it.
-    #[error("a directory, and no file in it: A/*.* are all files in A, A. is a file with no type")]
+    /// The path selects a directory and no file in it.
+    #[error("it is a directory: A/*.* selects all files in A, and A. is the file A with no type")]
     NoName,
-    /// Versions are wanted, and the path says none.
-    #[error("no version is said: say ';*' (in quotes) for all, or --newest")]
+    /// Versions are required, and the path specifies none.
+    #[error("the path has no version: give one, ';*' (in quotes) for all, or --newest")]
     NoVersion,
-    /// An ID, where names are listed.
-    #[error("names are listed; stat shows a file by its ID")]
+    /// The path is an ID, and the command lists names.
+    #[error("this command takes no ID; stat shows a file by its ID")]
     IsId,
-    /// Nothing is there by this path.
-    #[error("nothing there")]
+    /// The path selects nothing.
+    #[error("no such file or directory")]
     Nothing,
-    /// This ID is that of no file.
+    /// The ID is not the ID of a file.
     #[error("no such file")]
     NoSuchFile,
     /// The allocator refused memory.
-    #[error("no memory")]
+    #[error("out of memory")]
     NoMemory,
 }
 
@@ -45,7 +45,7 @@ impl<T: Drop> From<AllocFailed<T>> for PathFault {
 }
 
 impl PathFault {
-    /// The exit status of a command that is refused so.
+    /// Returns the exit status of a command that is refused for this reason.
     pub fn status(&self) -> Status
         ensures { HasPathStatus self.now result }
     {

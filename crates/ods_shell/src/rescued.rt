@@ -1,4 +1,4 @@
-//! What is got out of an image that may be refused: each file whose own chain is whole.
+//! The files of an image that may be refused: each file whose own chain is whole.
 ghost use Rattle.std.specs.Prelude.{◌≡◌, ◌⊎◌, IfOk, IfSome, IfNone};
 ghost use Rattle.ods_space.specs.Files.{FindsFiles, IsFile};
 ghost use Rattle.ods_space.specs.Disks.{on};
@@ -11,10 +11,10 @@ use ods_header::{file_sequence, ident, is_directory, print_ident};
 use ods_space::{ChainFault, Disk, primary_header};
 use std::alloc::{AllocError, Global};
 
-/// What is got out of a number.
+/// The contents that are rescued from a file number.
 #[derive(Drop)]
 pub enum Rescued<'a> {
-    /// It is no file, or a directory.
+    /// The number is not the number of a file, or is the number of a directory.
     Nothing,
     /// The chain of this file is not whole.
     Broken(FileId, ChainFault),
@@ -22,8 +22,8 @@ pub enum Rescued<'a> {
     Whole(FileId, String, Contents<'a>),
 }
 
-/// What is got out of the file with this number: its bytes up to the end of file where that lies in its blocks, else of all blocks; with
-/// `text` the lines of its records where these are whole.
+/// Returns the contents of the file with this number: its bytes up to the end of file if that is in its blocks, otherwise of all blocks. With
+/// `text`, returns the lines of its records if they are whole.
 pub fn open_rescued<'a>(
     alloc: Global,
     disk: &Disk<'a>,
@@ -54,15 +54,15 @@ pub fn open_rescued<'a>(
     }
 }
 
-/// The name in the header of a file, and what is kept of the blocks that are there.
+/// The name in the header of a file, and the kept contents of its present blocks.
 #[derive(Drop)]
 pub struct RescuedPart<'a> {
     pub name: String,
     pub contents: Contents<'a>,
 }
 
-/// What is there of the file with this number, be its chain whole or not: the blocks whose headers are there, with zeros for those past the
-/// image.
+/// Returns the present part of the file with this number, whether its chain is whole or not: the blocks whose headers are present. Blocks past the
+/// image are zeros. Returns `None` for file 1 and if the number is not the number of a file.
 pub fn open_rescued_part<'a>(
     alloc: Global,
     disk: &Disk<'a>,
@@ -83,7 +83,7 @@ pub fn open_rescued_part<'a>(
     Ok(Some(RescuedPart { name, contents }))
 }
 
-/// What is kept of a file with this body.
+/// Returns the kept contents of a file with this body.
 pub(crate) fn rescued_contents<'a>(
     alloc: Global,
     body: FileBody<'a>,

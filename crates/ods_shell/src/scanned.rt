@@ -1,4 +1,4 @@
-//! What is got out of a file that a scan of an image found.
+//! The contents of a file that a scan of an image found.
 ghost use Rattle.std.specs.Prelude.{◌≡◌, ◌<◌, ◌↔◌, IfOk, IfSome, IfNone, IsTrue, length};
 ghost use Rattle.ods_base.specs.Image.{block_at};
 ghost use Rattle.ods_header.specs.Header.{number_of};
@@ -16,24 +16,24 @@ use ods_remains::{Scanned, is_candidate};
 use ods_space::ChainFault;
 use std::alloc::{AllocError, Global};
 
-/// The ID and the name that a first header has.
+/// The ID and the name in a first header.
 #[derive(Drop)]
 pub struct HeaderName {
     pub file: FileId,
     pub name: String,
 }
 
-/// What is got out of a file that a scan found.
+/// The contents of a file that a scan found.
 #[derive(Drop)]
 pub struct Refound<'a> {
     /// What is missing: `BadChain` for a header, `OutsideVolume` for a block.
     pub missing: Option<ChainFault>,
-    /// What is kept of the file. There is nothing where some of it is missing and parts are not asked for.
+    /// The kept contents of the file. `None` if some of it is missing and parts are not requested.
     pub contents: Option<Contents<'a>>,
 }
 
-/// The ID and the name of the file of the first header at this LBN. There is nothing where no first header stands there, or that of a
-/// reserved file or of a directory.
+/// Returns the ID and the name of the file of the first header at this LBN. Returns `None` if no first header is there, or if the header belongs to
+/// a reserved file or to a directory.
 pub fn name_at(alloc: Global, image: &Image, first: u32) -> Result<Option<HeaderName>, AllocError>
     ensures some { IfOk result (λ found. IfSome found (IsNamedAt image.now first)) }
     ensures none { IfOk result (λ found. IfNone found (¬ (HasFirst image.now first × IsSought (block_at image.now first)))) }
@@ -59,8 +59,9 @@ pub fn name_at(alloc: Global, image: &Image, first: u32) -> Result<Option<Header
     }))
 }
 
-/// What is got out of the file of the first header at this LBN: its bytes up to the end of file where that lies in its blocks, else of all
-/// blocks; with `text` the lines of its records where these are whole. Where a header or a block is missing, only `partial` gets what is there.
+/// Returns the contents of the file of the first header at this LBN: its bytes up to the end of file if that is in its blocks, otherwise of all
+/// blocks. With `text`, returns the lines of its records if they are whole. If a header or a block is missing, returns the present part only with
+/// `partial`.
 pub fn open_scanned<'a>(
     alloc: Global,
     image: &'a Image,
@@ -110,7 +111,7 @@ fn keep_part<'a>(
     Ok(Some(rescued_contents(alloc, body, text)?))
 }
 
-/// Whether the header at one of these LBNs has the number of the one before it, or of the one behind it.
+/// Returns whether the header at the LBN with index `at` has the number of the header at the previous or the next LBN of the list.
 pub fn has_its_number_beside(image: &Image, lbns: &[u32], at: usize) -> bool
     requires { at < length lbns.now }
     ensures { IsTrue result ↔ HasItsNumberBeside image.now lbns.now at }

@@ -1,4 +1,4 @@
-//! The words by which entries are passed over before their texts are made: those of a name and of a type that stand in a path without a wildcard.
+//! The words by which entries are skipped before their texts are made: the words of a name and a type in a path without a wildcard.
 ghost use Rattle.std.specs.Prelude.{◌≡◌, ◌++◌, false, IfOk, MatchBool, MatchOption, OnOk};
 ghost use Rattle.ods_base.specs.Name.{RadName, Spells, title as title_of, type_text};
 ghost use Rattle.ods_base.specs.declared.name.Pick.TheVariants as Picked;
@@ -11,7 +11,7 @@ use ods_base::{Name, parse_name};
 use ods_paths::{Files, has_wildcard};
 use std::alloc::{AllocError, Global};
 
-/// A name with the words of each title that the pattern matches; none where it has a wildcard, or is no title.
+/// Returns a name with the words of each title that the pattern matches; `None` if the pattern has a wildcard, or is not a valid title.
 pub(crate) fn sought_title(alloc: Global, pattern: &[u8]) -> Result<Option<Name>, AllocError>
     ensures { IfOk result (HasTitle (capitals pattern.now)) }
 {
@@ -21,7 +21,7 @@ pub(crate) fn sought_title(alloc: Global, pattern: &[u8]) -> Result<Option<Name>
     Ok(spelled(&text))
 }
 
-/// A name with the type of each that the pattern matches; none where it has a wildcard, or is no type.
+/// Returns a name with the type of each type that the pattern matches; `None` if the pattern has a wildcard, or is not a valid type.
 pub(crate) fn sought_type(alloc: Global, pattern: &[u8]) -> Result<Option<Name>, AllocError>
     ensures { IfOk result (HasType (capitals pattern.now)) }
 {
@@ -31,7 +31,7 @@ pub(crate) fn sought_type(alloc: Global, pattern: &[u8]) -> Result<Option<Name>,
     Ok(spelled(&text))
 }
 
-/// The one name that the patterns can match; none where one has a wildcard, or is no title or no type.
+/// Returns the only name that the patterns can match; `None` if one has a wildcard, or is not a valid title or type.
 pub(crate) fn sought_name(alloc: Global, files: &Files<'_>) -> Result<Option<Name>, AllocError>
     ensures { IfOk result (IsOnly (said files.now)) }
 {
@@ -76,7 +76,7 @@ fn push_capitals(text: &mut Vec<u8>, part: &[u8]) -> Result<(), AllocError>
     Ok(())
 }
 
-/// Whether the patterns match a name. A title that they match has these words, and a type that they match this one.
+/// Returns whether the patterns match a name. Each title that the pattern matches has the words of `title`, and each type has the word of `kind`.
 pub(crate) fn is_sought(
     name: &Name,
     files: &Files<'_>,

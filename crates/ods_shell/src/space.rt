@@ -1,4 +1,4 @@
-//! The lines of `df`: how much of a volume is used.
+//! The lines of `df`: the usage of a volume.
 ghost use Rattle.std.specs.Prelude.{◌≡◌, ◌↔◌, ℕ, ◌+◌, ◌<◌, ◌≤◌, length, max, if◌then◌else◌, ◌++◌, IfOk, OnOk};
 ghost use Rattle.std.specs.List.{filter, range_with_len};
 ghost use Rattle.ods_space.specs.Layout.{is_in_use};
@@ -12,24 +12,24 @@ use ods_mount::Mounted;
 use ods_space::{Disk, in_use, is_free};
 use std::alloc::{AllocError, Global};
 
-/// How much of a volume is used.
+/// The usage of a volume.
 #[derive(Clone, Copy, Debug, PartialEq, Eq)]
 pub struct Space {
-    /// All blocks of the image.
+    /// The number of blocks of the image.
     pub blocks: u32,
-    /// Those that the storage bitmap says are free.
+    /// The number of blocks that the storage bitmap marks free.
     pub free: u32,
-    /// The most free blocks that follow one another.
+    /// The length of the longest run of free blocks.
     pub longest: u32,
-    /// The file numbers whose index bit is set.
+    /// The number of file numbers whose index bit is set.
     pub numbers: u32,
-    /// Those that a new header may get without growth of INDEXF.SYS.
+    /// The number of file numbers that a new header may receive without growth of INDEXF.SYS.
     pub ready: u32,
     /// H.FMAX, the greatest file number.
     pub most: u16,
 }
 
-/// How much of the volume is used.
+/// Returns the usage of the volume.
 pub fn space_of(volume: &Mounted) -> Space
     ensures { IsSpaceOf volume.now.image volume.now.layout result }
 {
@@ -92,7 +92,7 @@ fn one_if(holds: bool) -> u32
     if holds { 1 } else { 0 }
 }
 
-/// The lines of `df`.
+/// Returns the lines of `df`.
 pub fn space_lines(alloc: Global, space: &Space) -> Result<String, AllocError>
     ensures { IfOk result (λ text. string_bytes text ≡ space_text space.now) }
 {

@@ -1,4 +1,4 @@
-//! Files whose records are not whole, or longer than they say, on an image that may be refused.
+//! Files whose records are not whole, or are longer than the attributes specify, on an image that may be refused.
 ghost use Rattle.std.specs.Prelude.{◌≡◌, ◌≢◌, ℕ, None, IfOk, IfSome, IfNone};
 ghost use Rattle.ods_space.specs.Files.{FindsFiles};
 ghost use Rattle.ods_records.specs.declared.faults.RecordFault.{RecordFault as Fault};
@@ -10,8 +10,8 @@ use ods_records::{LongRecord, RecordFault, first_long, kind_of, record_size, rec
 use ods_space::{ChainFault, Disk};
 use std::alloc::{AllocError, Global};
 
-/// What is wrong with the records of the file with this number; `None` where they are whole, where it is not of records, and where it is no
-/// file with a whole chain and an end within its blocks.
+/// Returns the first fault in the records of the file with this number. Returns `None` if they are whole, or if the file has no records. Also
+/// returns `None` if it is not a file with a whole chain and an end within its blocks.
 pub fn spoiled_records(
     alloc: Global,
     disk: &Disk<'_>,
@@ -55,8 +55,8 @@ fn fault_in(alloc: Global, body: &FileBody<'_>) -> Result<Option<RecordFault>, A
     }
 }
 
-/// The first record of the file with this number that is longer than F.RSIZ; `None` where F.RSIZ is 0, where no record is, and where
-/// `spoiled_records` looks at none.
+/// Returns the first record of the file with this number that is longer than F.RSIZ. Returns `None` if F.RSIZ is 0, if no record is too long, or if
+/// `spoiled_records` examines no records.
 pub fn long_record(
     alloc: Global,
     disk: &Disk<'_>,

@@ -1,4 +1,4 @@
-//! The lines of `stat`: one field of a file a line.
+//! The lines of `stat`: one field of a file per line.
 ghost use Rattle.std.specs.Prelude.{◌≡◌, ◌<◌, ◌≤◌, ◌+◌, ◌/◌, ◌==◌, ◌&&◌, ◌++◌, if◌then◌else◌, length, IfOk, OnOk};
 ghost use Rattle.std.specs.String.{string_bytes};
 ghost use Rattle.ods_shell.specs.Stat.{blocks_line, bytes_line, carriage_words, characteristics_label, characteristics_text, condition_line, contiguous_word, created_line, dates_text, head_text, header_name_line, id_line, is_run_end, kind_line, locked_word, owner_line, no_words, path_line, protection_label, protection_line, said_line, system_words, user_words, revised_line, record_type_word, records_text, run_line, runs_text, size_text, stat_text, text_if};
@@ -9,7 +9,7 @@ use ods_base::{FileId, Uic};
 use ods_header::print_ident;
 use std::alloc::{AllocError, Global};
 
-/// What is known of a file, a field a line; `path` stands first, and the blocks, in order, last: `lbns` are all of them.
+/// Returns the facts of a file, one field per line. `path` is first, and the blocks in order are last. `lbns` has all of them.
 pub fn stat_lines(
     alloc: Global,
     path: &str,
@@ -93,7 +93,7 @@ fn push_size(text: &mut String, facts: &Facts) -> Result<(), AllocError>
     push_protection(text, facts.protection)
 }
 
-/// The line of how many blocks the file has.
+/// Appends the line with the number of blocks of the file.
 #[tactic(auto, unfolding(crate::specs::Stat::blocks_line))]
 pub(crate) fn push_blocks(text: &mut String, blocks: u32) -> Result<(), AllocError>
     ensures { OnOk result (string_bytes text.new ≡ string_bytes text.old ++ blocks_line blocks) }
@@ -109,7 +109,7 @@ fn push_bytes(text: &mut String, bytes: u64) -> Result<(), AllocError>
     writeln!(text, "Bytes: {bytes}")
 }
 
-/// The line of whose the file is.
+/// Appends the line with the owner of the file.
 #[tactic(auto, unfolding(crate::specs::Stat::owner_line))]
 pub(crate) fn push_owner(text: &mut String, owner: Uic) -> Result<(), AllocError>
     ensures { OnOk result (string_bytes text.new ≡ string_bytes text.old ++ owner_line owner) }
@@ -300,7 +300,7 @@ fn are_low(user: u8, system: u8) -> bool
     user / 64 == 0 && system / 64 == 0
 }
 
-/// The blocks as runs, a line each: which blocks of the file, and where they stand in the image.
+/// Appends the runs of the blocks, one per line: the VBNs in the file and the LBNs in the image.
 pub(crate) fn push_runs(text: &mut String, lbns: &[u32]) -> Result<(), AllocError>
     ensures { OnOk result (string_bytes text.new ≡ string_bytes text.old ++ runs_text lbns.now) }
 {
@@ -330,7 +330,7 @@ fn push_run(text: &mut String, lbns: &[u32], from: usize, at: usize) -> Result<u
     Ok(end)
 }
 
-/// Whether the next block does not follow this one in the image, or there is none.
+/// Returns whether the block is the last one, or the next block does not follow it in the image.
 pub(crate) fn ends_run(lbns: &[u32], at: usize) -> bool
     requires { at < length lbns.now }
     ensures { result ≡ is_run_end lbns.now at }

@@ -1,29 +1,29 @@
-//! How a command ends.
+//! The exit status of a command.
 ghost use Rattle.std.specs.Prelude.{◌≡◌};
 ghost use Rattle.ods_shell.specs.Statuses.{status_number};
 
-/// How a command ends: the exit status of the program.
-/// No clause covers which command ends with which status; `tests/fs` checks that on the built program.
+/// The exit status of a command.
+/// No clause covers the status of each command; `tests/fs` checks it on the built program.
 #[derive(Clone, Copy, Debug, PartialEq, Eq)]
 pub enum Status {
-    /// The command did all that it was asked for.
+    /// The command did everything that was requested.
     Done,
     /// The image is refused.
     Image,
-    /// Wrong words, or a path that is none.
+    /// The arguments are wrong, or the path is not a valid path.
     Words,
-    /// The host: reading, writing, memory.
+    /// A fault of the host: reading, writing, or out of memory.
     Host,
-    /// A file that is refused.
+    /// The file is refused.
     Refused,
-    /// Nothing there by this path.
+    /// The path selects nothing.
     Nothing,
     /// `check` or `cmp` found something.
     Found,
 }
 
 impl Status {
-    /// The number of the status.
+    /// Returns the number of the status.
     pub fn code(&self) -> u8
         ensures { result ≡ status_number self.now }
     {
@@ -38,7 +38,7 @@ impl Status {
         }
     }
 
-    /// This one, or where nothing was wrong the other: several faults end with the status of the first.
+    /// Returns this status, or `later` if this one is `Done`. So several faults end with the status of the first.
     pub fn or(self, later: Status) -> Status
         ensures done { self ≡ Status.Done → result ≡ later }
         ensures fault { ¬ (self ≡ Status.Done) → result ≡ self }

@@ -1,4 +1,4 @@
-//! The texts of paths, owners, protection words and dates, as people are shown them.
+//! The printable texts of paths, owners, protection words and dates.
 ghost use Rattle.std.specs.Prelude.{◌≡◌, ◌+◌, ◌<◌, ◌≤◌, ◌==◌, if◌then◌else◌, [], ◌++◌, OnOk, length, map};
 ghost use Rattle.std.specs.List.{flat_map};
 ghost use Rattle.std.specs.String.{string_bytes};
@@ -12,9 +12,9 @@ use ods_base::{FileId, Listed, Name, Uic, print_name, print_title};
 use ods_paths::numbered_name;
 use std::alloc::AllocError;
 
-/// Appends a directory as a path names it: `[0,0]` for the master directory, `[g,m]` for one of a group and a member, else the names
-/// with dots between them. A directory 000000.DIR that is another one has no path of its own, since `[000000]` is the master directory. It is
-/// shown as `[0,0.000000]`, which is no path.
+/// Appends a directory as in a path: `[0,0]` for the master directory, `[g,m]` for a group and a member, otherwise the names with dots between
+/// them. Another directory named 000000.DIR has no path of its own, since `[000000]` is the master directory. It is shown as `[0,0.000000]`, which
+/// is not a valid path.
 pub fn push_directory(text: &mut String, names: &[Name]) -> Result<(), AllocError>
     ensures { OnOk result (string_bytes text.new ≡ string_bytes text.old ++ shown_directory names.now) }
 {
@@ -38,7 +38,7 @@ fn push_inner(text: &mut String, names: &[Name]) -> Result<(), AllocError>
     }
 }
 
-/// Appends the name of a directory as a path in the master directory has it: `1,2` for one of a group and a member, else the name.
+/// Appends the name of a directory as in a path of the master directory: `1,2` for a group and a member, otherwise the name.
 #[tactic(auto, using(crate::proofs::Numbered::shown_by_numbers, crate::proofs::Numbered::shown_by_name))]
 pub fn push_directory_name(text: &mut String, name: &Name) -> Result<(), AllocError>
     ensures { OnOk result (string_bytes text.new ≡ string_bytes text.old ++ shown_one (title_of name.now)) }
@@ -71,7 +71,7 @@ fn push_names(text: &mut String, names: &[Name]) -> Result<(), AllocError>
     Ok(())
 }
 
-/// Appends the path of an entry of the directory to which these names lead.
+/// Appends the path of an entry of the directory with these names.
 pub fn push_path(text: &mut String, names: &[Name], entry: &Listed) -> Result<(), AllocError>
     ensures { OnOk result (string_bytes text.new ≡ string_bytes text.old ++ shown_path names.now entry.now) }
 {
@@ -79,7 +79,7 @@ pub fn push_path(text: &mut String, names: &[Name], entry: &Listed) -> Result<()
     text.push_str(print_name(&entry.name, entry.version).as_str())
 }
 
-/// Appends a file ID as a path names it, `#6,1`.
+/// Appends a file ID as in a path, `#6,1`.
 pub(crate) fn push_id(text: &mut String, file: FileId) -> Result<(), AllocError>
     ensures { OnOk result (string_bytes text.new ≡ string_bytes text.old ++ shown_id file) }
 {
@@ -94,7 +94,7 @@ pub(crate) fn push_user(text: &mut String, user: Uic) -> Result<(), AllocError>
     write!(text, "[{:o},{:o}]", user.group, user.member)
 }
 
-/// A protection word as the rights that it grants to the system, the owner, the group and the world: `[RWED,RWED,RWED,R]`.
+/// Returns a protection word as the rights that it grants to the system, the owner, the group and the world: `[RWED,RWED,RWED,R]`.
 #[tactic(auto, unfolding(crate::specs::Texts::shown_rights))]
 pub(crate) fn rights_text(protection: u16) -> ArrayString<21>
     ensures { result.bytes ≡ shown_rights protection }
@@ -140,8 +140,8 @@ fn letter(bit: u16, right: &'static str) -> &'static str
     if bit == 0 { right } else { "" }
 }
 
-/// A date of an ident area, its 13 bytes `01JAN80103000`, as `01-JAN-80 10:30:00`; `-` where it is all zeros, and `?` for each byte that is
-/// no character.
+/// Returns a date of an ident area, its 13 bytes `01JAN80103000`, as `01-JAN-80 10:30:00`. Returns `-` if it is all zeros, and `?` for each byte
+/// that is not a character.
 #[tactic(auto, unfolding(crate::specs::Texts::shown_date))]
 pub(crate) fn date_text(date: &[u8; 13]) -> ArrayString<18>
     ensures { result.bytes ≡ shown_date date.now }
@@ -167,7 +167,7 @@ fn is_blank(date: &[u8; 13]) -> bool
     date.iter().all(|byte| *byte == 0)
 }
 
-/// Appends bytes, and what stands behind them.
+/// Appends bytes, and then the text `behind`.
 pub(crate) fn push_some(text: &mut ArrayString<18>, bytes: &[u8], behind: &str)
     requires { array_string_len text.old + length bytes.now + length behind.now ≤ 18 }
     ensures bytes { text.new.bytes ≡ text.old.bytes ++ map shown_byte bytes.now ++ behind.now }

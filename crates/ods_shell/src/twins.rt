@@ -1,10 +1,10 @@
-//! Entries of one name and version in one directory, as a refused volume may have them: a path that fits both does not say which is meant.
+//! Entries with the same name and version in one directory, which a refused volume may have. A path that matches both is ambiguous.
 ghost use Rattle.std.specs.Prelude.{MatchBool};
 ghost use Rattle.ods_shell.specs.Twins.{AreTwins, HaveTwins};
 
 use crate::found::Found;
 
-/// Whether two neighbours of what was found are entries of one directory with one name and version.
+/// Returns whether two consecutive found files are entries of one directory with the same name and version.
 pub fn have_twins(found: &[Found]) -> bool
     ensures { MatchBool result (HaveTwins found.now) (¬ HaveTwins found.now) }
 {

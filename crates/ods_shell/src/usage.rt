@@ -1,4 +1,4 @@
-//! The lines of `du`: how many blocks the files of each directory have, each file once, under the first path that names it.
+//! The lines of `du`: the number of blocks of the files in each directory. Each file counts once, under the first path that names it.
 ghost use Rattle.std.specs.Prelude.{◌≡◌, ◌+◌, ◌-◌, ◌^◌, ◌<◌, ◌++◌, ◌∷◌, ℕ, List, Option, Some, [], false, true, length, min, slice_get, slice_index, slice_index_or, slice_set, take, IfOk, OnOk, IsPermutation};
 ghost use Rattle.std.specs.List.{flat_map, range_with_len};
 ghost use Rattle.std.specs.Ordering.{nat_cmp};
@@ -80,7 +80,7 @@ fn see(is_seen: &mut Vec<bool>, number: u16) -> bool
     before
 }
 
-/// A line for each directory: the blocks of its files, and its name.
+/// Returns a line for each directory: the number of blocks of its files, and its name. With `json`, an object replaces the line.
 pub fn usage_lines(
     alloc: Global,
     disk: &Disk<'_>,
@@ -212,7 +212,7 @@ fn add(sum: u64, blocks: u32) -> u64
     sum.saturating_add(u64::from(blocks))
 }
 
-/// A line for each of the largest files, at most so many: its blocks, and its path.
+/// Returns a line for each of the largest files, at most `most`: its number of blocks, and its path. With `json`, an object replaces the line.
 pub fn largest_lines(
     alloc: Global,
     disk: &Disk<'_>,

@@ -1,4 +1,4 @@
-//! Of which files the name is there in another version too, so that each gets a name of its own on a host.
+//! The names that several versions have, so that each file has a unique name on a host.
 ghost use Rattle.std.specs.Prelude.{◌≡◌, List, IfOk, MatchBool, OnOk};
 ghost use Rattle.ods_shell.specs.Versioned.{AreKnownOf, HasOther, IsJoined, is_other, joined, known_of, name_key, version_at};
 ghost use Rattle.ods_shell.specs.declared.found.Found.{Found as One};
@@ -8,10 +8,10 @@ use std::alloc::{AllocError, Global};
 use std::collections::BTreeMap;
 use std::marker::Model;
 
-/// A name: the word of its type, and its three words.
-type Key = [u16; 4];
+/// A name in a directory: the number of the directory's file, the word of the type, and the three words of the name.
+type Key = [u16; 5];
 
-/// The names of some files, each with its one version, or with none where it has several.
+/// The names of some files in their directories. Each has its single version, or none if there are several versions.
 #[derive(Drop)]
 pub struct Versioned {
     versions: BTreeMap<Key, Option<u16>>,
@@ -26,7 +26,7 @@ impl Model for Versioned {
 }
 
 impl Versioned {
-    /// Those of these files.
+    /// Collects the names of these files.
     pub fn of(alloc: Global, files: &[Found]) -> Result<Versioned, AllocError>
         ensures { IfOk result (AreKnownOf files.now) }
     {
@@ -39,7 +39,7 @@ impl Versioned {
         Ok(all)
     }
 
-    /// Whether the name of this file stands there with another version too.
+    /// Returns whether the name of this file is present with another version.
     pub fn has_other(&self, file: &Found) -> bool
         ensures { (files : List One) → AreKnownOf files self.now → MatchBool result (HasOther files file.now.place) (¬ HasOther files file.now.place) }
     {
@@ -63,16 +63,17 @@ impl Versioned {
     }
 }
 
-/// The words of the name of an entry; zeros where a file is named by its ID.
+/// The directory of an entry, and the words of its name; zeros if a path selects the file by its ID.
 fn key(place: &Option<EntryPlace>) -> Key
     ensures { result ≡ name_key place.now }
 {
     match place {
         Some(place) => {
             let words = place.entry.name.words();
-            [place.entry.name.ext(), words[0], words[1], words[2]]
+            let ext = place.entry.name.ext();
+            [place.directory.number, ext, words[0], words[1], words[2]]
         }
-        None => [0; 4],
+        None => [0; 5],
     }
 }
 

@@ -1,4 +1,4 @@
-//! The directories to which the steps of a path lead.
+//! The directories that the steps of a path reach.
 ghost use Rattle.std.specs.Prelude.{◌≡◌, ◌+◌, ◌<◌, ◌++◌, ◌∷◌, ℕ, List, [], IfOk, OnOk, MatchBool, IsSortedByKey, Some, length, slice_get, take};
 ghost use Rattle.ods_base.specs.declared.listed.Listed.{Listed as Entry};
 ghost use Rattle.ods_paths.specs.{Order.listing_cmp, Patterns.capitals, Steps.Numbers, Steps.Pattern, Views.step as said_step, Views.steps as said_steps};
@@ -15,7 +15,7 @@ use ods_paths::{Files, Step, Steps, Versions, numbered_name};
 use ods_space::Disk;
 use std::alloc::{AllocError, Global};
 
-/// The entries of a directory that lead on, in the order of a listing; none of a closed one, which is noted.
+/// Returns the directory entries of a directory in the order of a listing. Returns none for a closed directory, and notes it.
 pub(crate) fn ways_from(
     alloc: Global,
     disk: &Disk<'_>,
@@ -61,7 +61,7 @@ fn leads_on(disk: &Disk<'_>, entry: &Listed) -> bool
     }
 }
 
-/// The directories to which steps lead from the master directory, closed ones too.
+/// Returns the directories that the steps reach from the master directory, including closed ones.
 pub(crate) fn find_starts(
     alloc: Global,
     disk: &Disk<'_>,
@@ -122,7 +122,7 @@ fn add_steps(
     add_named(alloc, &from.names, &those, found)
 }
 
-/// Of these ways those to which a step leads, and of one name the highest version.
+/// Returns the ways among these that a step selects, with only the highest version of each name.
 pub(crate) fn ways_by(
     alloc: Global,
     ways: &[Listed],
@@ -241,7 +241,7 @@ fn add_named(
     Ok(())
 }
 
-/// The names and one more.
+/// Returns the names with one more at the end.
 pub(crate) fn longer(alloc: Global, names: &[Name], name: &Name) -> Result<Vec<Name>, AllocError>
     ensures { IfOk result (λ all. all.items ≡ names.now ++ name.now ∷ []) }
 {

@@ -1,7 +1,7 @@
--- How many blocks of BITMAP.SYS stand one behind the other.
+-- The number of contiguous blocks of BITMAP.SYS.
 use Rattle.std.specs.Prelude.{◌≡◌, ◌≢◌, ℕ, ◌+◌, ◌-◌, ◌<◌, ◌≤◌, List, length, slice_index}
 
--- from the first block that has bits on, the one behind the storage control block, so many blocks stand one behind the other, and the next one does not
+-- from the first block with bits on, after the storage control block, `run` blocks are contiguous, and the next block is not
 pub record IsBitmapRun (bitmap : List ℕ) (run : ℕ) : Type 0 where
   pub within : run ≤ length bitmap - 1
   pub places : (j : ℕ) → j < run → slice_index bitmap (j + 1) ≡ slice_index bitmap 1 + j

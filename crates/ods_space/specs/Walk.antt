@@ -17,28 +17,29 @@ pub record IsLink (I : List (List ℕ)) (h : Home) (index : List ℕ) (most : �
   pub sequence : sequence_of (header_by I h index (next_number_of b)) ≡ next_sequence_of b
   pub segment : IsSegment I h index most (next_number_of b) k
 
--- from header n on there is a chain with these blocks
+-- there is a chain with these blocks from header n on
 abbrev pub Leads : List (List ℕ) → Home → Option (List ℕ) → ℕ → List ℕ → Type 0
 Leads I h index n blocks = (others : List ℕ) × Follows I h index [] 0 n others blocks
 
--- no chain leads on from header n, or memory is wanted
+-- there is no chain from header n on, or memory is refused
 abbrev pub IsDeadEnd : List (List ℕ) → Home → Option (List ℕ) → ℕ → ChainFault → Type 0
 IsDeadEnd I h index n BadChain = (blocks : List ℕ) → ¬ Leads I h index n blocks
 IsDeadEnd I h index n (OutsideVolume lbn) = ⊥
 IsDeadEnd I h index n NoMemory = Unit {0}
 
--- One of these blocks lies past an image of len blocks, namely this one; or none does.
+-- One of these blocks is past the end of an image of len blocks, namely `lbn`; or none is.
 abbrev pub IsPast : ℕ → List ℕ → Option ℕ → Type 0
 IsPast len blocks (Some lbn) = Contains blocks lbn × (len ≤ lbn)
 IsPast len blocks None = All (λ lbn. lbn < len) blocks
 
--- What was met of these blocks: how many there are, the one with the index that is wanted, counted from 0, and one that an image of len blocks lacks.
+-- The facts that a walk collects about these blocks: their number, the block with the index `wanted`, counted from 0, and one that an image of len
+-- blocks lacks.
 pub record IsSurveyOf (len wanted : ℕ) (s : Survey) (blocks : List ℕ) : Type 0 where
   pub count : s.count ≡ length blocks
   pub found : s.found ≡ slice_get blocks wanted
   pub past : IsPast len blocks s.past
 
--- the fault of a layout whose file has this one
+-- the fault of the layout for this fault of a file
 abbrev pub layout_fault_of : ℕ → ChainFault → LayoutFault
 layout_fault_of number BadChain = Chain number BadChain
 layout_fault_of number (OutsideVolume lbn) = Chain number (OutsideVolume lbn)

@@ -1,4 +1,4 @@
-//! The blocks of BITMAP.SYS, with how many of them stand one behind the other: then nobody has to look along them.
+//! The blocks of BITMAP.SYS, with the number of contiguous ones, so that no caller has to count them.
 ghost use Rattle.std.specs.Prelude.{◌≡◌, IfOk};
 ghost use Rattle.ods_space.specs.BitmapRun.{IsBitmapRun};
 

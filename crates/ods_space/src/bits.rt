@@ -18,7 +18,7 @@ pub(crate) fn is_used(image: &Image, home: &Home, number: u16) -> bool
     at < image.len() as u64 && bit(image.block(at as u32), (number as u32 - 1) % 4096)
 }
 
-/// Whether a block is free. A set bit of the storage bitmap says that a block of the image is free.
+/// Returns whether a block is free. A set bit of the storage bitmap marks a block of the image as free.
 pub fn is_free(disk: &Disk<'_>, lbn: u32) -> bool
     ensures { result ≡ seen is_free_block disk.now lbn }
 {
@@ -30,7 +30,7 @@ pub fn is_free(disk: &Disk<'_>, lbn: u32) -> bool
     map < disk.image.len() && bit(disk.image.block(map), lbn % 4096)
 }
 
-/// Whether a number's index bit is set.
+/// Returns whether the index bit of a number is set.
 pub fn in_use(disk: &Disk<'_>, number: u16) -> bool
     ensures { result ≡ is_in_use disk.now.image.now disk.now.layout.now.home number }
 {

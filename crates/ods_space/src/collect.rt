@@ -1,4 +1,4 @@
-//! The blocks of a chain, collected.
+//! Collecting the blocks of a chain.
 ghost use Rattle.std.specs.Prelude.{◌≡◌, ◌++◌, ◌≤◌, [], length, IfOk, IfErr, IfSome, IfNone, OnOk};
 ghost use Rattle.std.specs.Option.{option_map};
 ghost use Rattle.ods_header.specs.Header.{IsLaidOut, IsRun, run_blocks, blocks_of};
@@ -21,7 +21,7 @@ fn push_run(named: &mut Vec<u32>, run: &Run) -> Result<(), AllocError>
     Ok(())
 }
 
-/// The blocks that a header's pointers name, put behind these. After an `Err` some of them may be there.
+/// Appends the blocks that the pointers of a header map. After an `Err` some of them may be appended.
 pub fn push_header(named: &mut Vec<u32>, block: &Block) -> Result<(), AllocError>
     requires { IsLaidOut block.now }
     ensures { OnOk result (named.new.items ≡ named.old.items ++ blocks_of block.now) }
@@ -107,10 +107,10 @@ pub(crate) fn collect(
     }
 }
 
-/// What the headers of a chain name, as far as it goes.
+/// The blocks that the headers of a chain map, as far as the chain can be traversed.
 #[derive(Drop)]
 pub struct Reached {
-    /// The LBNs, in order; some may lie past the image.
+    /// The LBNs in order. Some can be past the end of the image.
     pub blocks: Vec<u32>,
     /// Whether no header is missing.
     pub is_whole: bool,

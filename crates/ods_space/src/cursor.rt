@@ -1,4 +1,4 @@
-//! Cursors over a file with a whole chain: its runs and its blocks, one after another from the first on. No memory is taken.
+//! Cursors over a file with a whole chain: its runs and its blocks in order, from the first on. They allocate no memory.
 ghost use Rattle.std.specs.Prelude.{◌≡◌};
 ghost use Rattle.ods_space.specs.{Chain.IsChain, Files.IsLayoutOf};
 
@@ -8,12 +8,12 @@ use ods_base::Block;
 use ods_header::{Run, pointer_at, pointer_count};
 use std::marker::Model;
 
-/// The runs of a chain, header after header. A contract sees the LBNs that they still have to come.
+/// The runs of a chain, header after header. A contract sees the LBNs that are still to come.
 #[derive(Drop)]
 pub struct ChainRuns<'a> {
-    /// The headers behind the present one.
+    /// The headers after the present one.
     headers: ChainHeaders<'a>,
-    /// The present header, and the pointer of it that comes next.
+    /// The present header, with its next pointer.
     header: &'a Block,
     pointer: usize,
 }
@@ -37,7 +37,7 @@ impl<'a> ChainRuns<'a> {
     ghost use Rattle.ods_space.specs.{Chain.IsChain, Chain.headers_of, Chain.named_by, Files.IsLayoutOf};
     ghost use Rattle.ods_space.specs.Disks.{header_on, on, seen};
 
-    /// The runs of the chain with this first header.
+    /// Makes a cursor over the runs of the chain with this first header.
     pub fn from(disk: &Disk<'a>, number: u16, first: &'a Block) -> Self
         requires layout { on IsLayoutOf disk.now }
         requires chain { (others : List ℕ) × (blocks : List ℕ) × on IsChain disk.now number others blocks }
@@ -55,7 +55,7 @@ impl<'a> ChainRuns<'a> {
         }
     }
 
-    /// The next run.
+    /// Returns the next run, or `None` after the last one.
     pub fn next(&mut self) -> Option<Run>
         ensures some { IfSome result (λ run. IsRun run × (self.old ≡ run_blocks run ++ self.new)) }
         ensures none { IfNone result (self.old ≡ []) }
@@ -73,12 +73,12 @@ impl<'a> ChainRuns<'a> {
     }
 }
 
-/// The blocks of a chain, run after run. A contract sees the LBNs that are still to come. A cursor takes no memory.
+/// The blocks of a chain, run after run. A contract sees the LBNs that are still to come. A cursor allocates no memory.
 #[derive(Drop)]
 pub struct BlockCursor<'a> {
-    /// The runs behind the present one.
+    /// The runs after the present one.
     runs: ChainRuns<'a>,
-    /// The next block of the present run, and how many it still has.
+    /// The next block of the present run, and the number of blocks that it still has.
     lbn: u32,
     left: u32,
 }
@@ -99,7 +99,7 @@ impl<'a> BlockCursor<'a> {
     ghost use Rattle.ods_space.specs.{Chain.IsChain, Chain.headers_of, Chain.named_by, Files.IsLayoutOf};
     ghost use Rattle.ods_space.specs.Disks.{header_on, on, seen};
 
-    /// The blocks of the chain with this first header.
+    /// Makes a cursor over the blocks of the chain with this first header.
     pub fn from(disk: &Disk<'a>, number: u16, first: &'a Block) -> Self
         requires layout { on IsLayoutOf disk.now }
         requires chain { (others : List ℕ) × (blocks : List ℕ) × on IsChain disk.now number others blocks }
@@ -114,7 +114,7 @@ impl<'a> BlockCursor<'a> {
         }
     }
 
-    /// The LBN of the next block.
+    /// Returns the LBN of the next block, or `None` after the last one.
     pub fn next(&mut self) -> Option<u32>
         ensures some { IfSome result (λ lbn. self.old ≡ lbn ∷ self.new) }
         ensures none { IfNone result (self.old ≡ []) }

@@ -1,4 +1,4 @@
-//! Drafts: changes of single blocks, to be made all at once.
+//! Drafts: changes of single blocks, to be applied all at once.
 use crate::fill::{Filling, fill};
 use ods_base::{Block, Image};
 use ods_header::Run;
@@ -63,7 +63,7 @@ impl Change {
     }
 }
 
-/// Changes of single blocks of an image, to be made all at once.
+/// Changes of single blocks of an image, to be applied all at once.
 #[derive(Drop)]
 pub struct Draft {
     changes: Vec<Change>,
@@ -85,7 +85,7 @@ impl Draft {
     ghost use Rattle.ods_base.specs.{Block.IsBlock, Image.IsImage};
     ghost use Rattle.ods_space.specs.Draft.{ChangesBit, IsNextChange, seen_at, applied, zeroed};
 
-    /// A draft without a change.
+    /// Makes a draft without changes.
     pub fn new(alloc: Global) -> Draft
         ensures { result ≡ [] }
     {
@@ -94,7 +94,7 @@ impl Draft {
         }
     }
 
-    /// The block at this LBN, read through the draft: the newest change counts.
+    /// Returns the block at this LBN, read through the draft. The newest change counts.
     pub fn block<'a>(&'a self, image: &'a Image, lbn: u32) -> &'a Block
         requires { lbn < length image.now }
         ensures value { result.now ≡ seen_at image.now self.now lbn }
@@ -108,7 +108,7 @@ impl Draft {
         image.block(lbn)
     }
 
-    /// The least LBN from `from` on and below `to` that changes, or `to` for none.
+    /// Returns the least changed LBN in `from..to`, or `to` if there is none.
     pub fn next_change(&self, from: u64, to: u64) -> u64
         requires { from ≤ to }
         ensures { IsNextChange self.now from to result }
@@ -120,7 +120,7 @@ impl Draft {
         at
     }
 
-    /// One block changes. After an `Err` the draft is as it was.
+    /// Adds a change of one block. After an `Err` the draft is unchanged.
     pub fn set(&mut self, lbn: u32, block: Block) -> Result<(), AllocError>
         ensures ok { OnOk result (self.new ≡ (lbn, block) ∷ self.old) }
         ensures err { OnErr result (self.new ≡ self.old) }
@@ -132,8 +132,8 @@ impl Draft {
         Ok(())
     }
 
-    /// One block changes; where the newest change is of that block, this one takes its place. An image becomes what it
-    /// becomes after `set`. After an `Err` the draft is as it was.
+    /// Adds a change of one block, or replaces the newest change if that is of the same block. The draft then has the same effect on an image as
+    /// after `set`. After an `Err` the draft is unchanged.
     pub fn renew(&mut self, lbn: u32, block: Block) -> Result<(), AllocError>
         ensures ok { OnOk result ((I : List (List ℕ)) → applied I self.new ≡ applied I ((lbn, block) ∷ self.old)) }
         ensures err { OnErr result (self.new ≡ self.old) }
@@ -146,8 +146,8 @@ impl Draft {
         self.set(lbn, block)
     }
 
-    /// Sets or clears bit `i` of a block as the draft has it; where the newest change is of that block, in place. After an
-    /// `Err` the draft is as it was.
+    /// Sets or clears bit `i` of a block, as the draft has it. If the newest change is of that block, it is changed in place. After an `Err` the
+    /// draft is unchanged.
     pub fn put_bit(
         &mut self,
         image: &Image,
@@ -184,7 +184,7 @@ impl Draft {
         Ok(())
     }
 
-    /// The blocks of a run become zeros. After an `Err` the draft is as it was.
+    /// Changes the blocks of a run to zeros. After an `Err` the draft is unchanged.
     pub fn zero(&mut self, run: Run) -> Result<(), AllocError>
         ensures ok { OnOk result (self.new ≡ zeroed run self.old) }
         ensures err { OnErr result (self.new ≡ self.old) }
@@ -195,7 +195,7 @@ impl Draft {
         Ok(())
     }
 
-    /// An equal draft, with room for what is mostly added to a copy: a header, and a block of each bitmap.
+    /// Returns an equal draft, with room for the usual additions to a copy: a header, and a block of each bitmap.
     pub fn copy(&self) -> Result<Draft, AllocError>
         ensures { IfOk result (λ copy. copy ≡ self.now) }
     {
@@ -205,8 +205,8 @@ impl Draft {
         Ok(Draft { changes })
     }
 
-    /// Makes the changes, the oldest first, and passes over each block that the image lacks. A
-    /// block that no change names stays as it was.
+    /// Applies the changes to an image, the oldest first. Changes of blocks that the image lacks have no effect. A block without a change is
+    /// unchanged.
     pub fn apply(&self, image: &mut Image)
         ensures { image.new ≡ applied image.old self.now }
     {
@@ -215,7 +215,7 @@ impl Draft {
         }
     }
 
-    /// What an image becomes by the changes is an image, of blocks of 512 bytes. Each change is looked at once.
+    /// Checks each change once, so that contracts know that the image with the changes is an image: blocks of 512 bytes.
     pub fn makes_image(&self, image: &Image)
         ensures { IsImage (applied image.now self.now) }
     {

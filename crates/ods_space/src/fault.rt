@@ -1,4 +1,4 @@
-//! Why a chain is not whole, and why there is no layout.
+//! Why a chain is not whole, and why a layout cannot be read.
 ghost use Rattle.std.specs.Prelude.{◌≡◌};
 ghost use Rattle.ods_space.specs.Refusals.{chain_row};
 
@@ -6,16 +6,16 @@ use ods_base::{Coded, Row};
 use std::alloc::AllocError;
 use thiserror::Error;
 
-/// Why the chain of a file is not whole.
+/// The reason why the chain of a file is not whole.
 #[derive(Clone, Copy, Debug, PartialEq, Eq, Error)]
 pub enum ChainFault {
-    /// A header of the chain does not go on as it says.
+    /// The link from one header of the chain to the next is broken.
     #[error("BadChain")]
     BadChain,
-    /// A pointer names this block, which the image lacks.
+    /// A pointer maps this LBN, which the image lacks.
     #[error("OutsideVolume {0}")]
     OutsideVolume(u32),
-    /// Memory was refused.
+    /// The allocator refused memory.
     #[error("NoMemory")]
     NoMemory,
 }
@@ -42,16 +42,16 @@ impl From<AllocError> for ChainFault {
     }
 }
 
-/// Why there is no layout.
+/// The reason why a layout cannot be read.
 #[derive(Clone, Copy, Debug, PartialEq, Eq, Error)]
 pub enum LayoutFault {
-    /// File 1 or 2, which this number says, does not exist.
+    /// The file with this number, 1 or 2, does not exist.
     #[error("file {0} does not exist")]
     NoFile(u16),
-    /// The chain of file 1 or 2, which this number says, has this fault.
+    /// The chain of the file with this number, 1 or 2, has this fault.
     #[error("{1} {0}")]
     Chain(u16, ChainFault),
-    /// Memory was refused.
+    /// The allocator refused memory.
     #[error("NoMemory")]
     NoMemory,
 }

@@ -16,7 +16,7 @@ use ods_base::{Block, Image};
 use ods_header::{Header, read_header};
 use std::alloc::Global;
 
-/// The first header of a file. There is none where the number is no file.
+/// Returns the first header of a file, or `None` if the number is not a file.
 pub fn file_header(disk: &Disk<'_>, number: u16) -> Option<Header>
     requires { on FindsFiles disk.now }
     ensures { SomeIff result (on IsFile disk.now number) (header_of (header_on disk.now number)) }
@@ -37,8 +37,7 @@ pub fn file_header(disk: &Disk<'_>, number: u16) -> Option<Header>
     }
 }
 
-/// The block of a file's first header. It is looked at in place, with no copy of its fields. There is none where the
-/// number is no file.
+/// Returns the block of the first header of a file, or `None` if the number is not a file. The block is read in place, without a copy of its fields.
 pub fn primary_header<'a>(disk: &Disk<'a>, number: u16) -> Option<&'a Block>
     ensures some { IfSome result (λ block. on IsFile disk.now number × (block.now ≡ header_on disk.now number)) }
     ensures none { IfNone result (¬ on IsFile disk.now number) }
@@ -53,7 +52,7 @@ pub fn primary_header<'a>(disk: &Disk<'a>, number: u16) -> Option<&'a Block>
     )
 }
 
-/// All blocks of a file, in order. A number that is no file has no chain.
+/// Returns all blocks of a file, in order. A number that is not a file has no chain, which is a fault.
 pub fn chain(alloc: Global, disk: &Disk<'_>, number: u16) -> Result<Vec<u32>, ChainFault>
     requires { on FindsFiles disk.now }
     ensures ok { IfOk result (λ blocks. on HasBlocks disk.now number blocks.items) }
@@ -96,8 +95,8 @@ pub(crate) fn outside(image: &Image, blocks: &[u32]) -> Option<u32>
     None
 }
 
-/// The chain of a file is whole, and all its blocks are of the image. A number that is no file has no chain. The check
-/// takes no memory.
+/// Checks that the chain of a file is whole, and that the image has all its blocks. A number that is not a file has no chain, which is a fault. The
+/// check allocates no memory.
 pub fn check_chain(disk: &Disk<'_>, number: u16) -> Result<(), ChainFault>
     requires { on FindsFiles disk.now }
     ensures ok { OnOk result ((blocks : List ℕ) × on HasBlocks disk.now number blocks) }
@@ -113,7 +112,7 @@ pub fn check_chain(disk: &Disk<'_>, number: u16) -> Result<(), ChainFault>
     }
 }
 
-/// One block of a file, counted from 1. There is none where the file has no whole chain.
+/// Returns the LBN of one block of a file, counted from 1. Returns `None` if the file has no whole chain, or no such block.
 pub fn locate(disk: &Disk<'_>, number: u16, vbn: u32) -> Option<u32>
     requires { on FindsFiles disk.now }
     ensures found { IfSome result (on Holds disk.now number vbn) }
@@ -125,7 +124,7 @@ pub fn locate(disk: &Disk<'_>, number: u16, vbn: u32) -> Option<u32>
     survey_whole(disk, number, vbn - 1)?.found
 }
 
-/// How many blocks a file has. There is no count where the file has no whole chain.
+/// Returns the number of blocks of a file, or `None` if the file has no whole chain.
 pub fn block_count(disk: &Disk<'_>, number: u16) -> Option<u32>
     requires { on FindsFiles disk.now }
     ensures count { IfSome result (λ count. (blocks : List ℕ) × on HasBlocks disk.now number blocks × (count ≡ length blocks)) }

@@ -1,4 +1,4 @@
-//! Blocks of an image that all become one block. A draft marks those that it makes zeros as empty.
+//! Blocks of an image that are all set to one block. A draft marks the blocks that it sets to zeros as empty.
 ghost use Rattle.std.specs.Prelude.{◌≡◌, ◌<◌, false, true, [], length, slice_set};
 ghost use Rattle.ods_base.specs.{Block.IsBlock, Block.zeros, Bits.HasBit};
 ghost use Rattle.ods_space.specs.{Draft.applied, Changes.filled};

@@ -1,4 +1,4 @@
-//! Where headers stand.
+//! The location of headers.
 ghost use Rattle.std.specs.Prelude.{◌≡◌, ◌+◌, ◌^◌, ◌<◌, ◌≤◌, [], IfSome, IfNone};
 ghost use Rattle.ods_header.specs.Header.{sequence_of};
 ghost use Rattle.ods_space.specs.Layout.{place_by, header_by, last_number as last_of, most_index_blocks as most_blocks};
@@ -42,7 +42,7 @@ pub(crate) fn block_by<'a>(
     }
 }
 
-/// The block of header `number`. There is none where the number has no place, or where the image lacks the block.
+/// Returns the block of header `number`, or `None` if no LBN is known for the number or the image lacks the block.
 pub fn header_block<'a>(disk: &Disk<'a>, number: u16) -> Option<&'a Block>
     ensures some { IfSome result (λ block. block.now ≡ header_on disk.now number) }
     ensures none { IfNone result (header_on disk.now number ≡ []) }
@@ -50,7 +50,7 @@ pub fn header_block<'a>(disk: &Disk<'a>, number: u16) -> Option<&'a Block>
     block_by(disk.image, &disk.layout.home(), disk.layout.index(), number)
 }
 
-/// The sequence word of header `number`. It is 0 where there is no such block.
+/// Returns the sequence word of header `number`, or 0 if there is no such block.
 pub fn sequence(disk: &Disk<'_>, number: u16) -> u16
     ensures { result ≡ sequence_of (header_on disk.now number) }
 {
@@ -69,7 +69,7 @@ pub(crate) fn most_index_blocks(home: &Home) -> usize
     2 + size + (home.max_files as usize).min(4096 * size)
 }
 
-/// The greatest file number.
+/// Returns the greatest file number.
 pub fn last_number(layout: &Layout) -> u16
     ensures { result ≡ last_of layout.now }
 {

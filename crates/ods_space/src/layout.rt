@@ -1,4 +1,4 @@
-//! Where a volume's structures lie.
+//! The locations of a volume's structures.
 ghost use Rattle.std.specs.Prelude.{◌≡◌, ◌≤◌, IfOk, IfErr};
 ghost use Rattle.std.specs.Vec.{vec_capacity};
 ghost use Rattle.ods_header.specs.Home.{IsHomeOf as IsHome};
@@ -13,8 +13,8 @@ use ods_header::Home;
 use std::alloc::{AllocError, Global};
 use std::marker::Model;
 
-/// The home block's fields, and the blocks of INDEXF.SYS and BITMAP.SYS. It keeps room for all blocks that INDEXF.SYS may ever have, 4
-/// bytes each and 512 KiB at most, so that it grows without taking memory.
+/// The fields of the home block, and the blocks of INDEXF.SYS and BITMAP.SYS. A layout has room for the most blocks that INDEXF.SYS can ever have, 4
+/// bytes each and 512 KiB at most, so it grows without allocation.
 #[derive(Drop)]
 pub struct Layout {
     home: Home,
@@ -40,8 +40,8 @@ impl Layout {
     ghost use Rattle.ods_header.specs.Home.{IsHomeOf};
     ghost use Rattle.ods_space.specs.{Files.FindsFiles, Files.IsLayoutOf, Faults.IsLayoutFault, Faults.IsOfIndex};
 
-    /// The home block's fields with the blocks of INDEXF.SYS and BITMAP.SYS, and room for the most blocks that INDEXF.SYS may ever have.
-    /// The refusal is for want of memory, or the fault of file 1 or 2: it does not exist, or its chain is not whole.
+    /// Reads the blocks of INDEXF.SYS and BITMAP.SYS, and reserves room for the most blocks that INDEXF.SYS can ever have. The fault is out of
+    /// memory, or the fault of file 1 or 2: it does not exist, or its chain is not whole.
     pub fn read(alloc: Global, image: &Image, home: Home) -> Result<Layout, LayoutFault>
         requires { IsHomeOf image.now home }
         ensures ok { IfOk result (λ layout. IsLayoutOf image.now layout × (layout.home ≡ home)) }
@@ -61,8 +61,8 @@ impl Layout {
         }
     }
 
-    /// The home block's fields with the blocks of INDEXF.SYS, which find every file; there are none of BITMAP.SYS. The refusal is for want of
-    /// memory, or the fault of file 1.
+    /// Reads the blocks of INDEXF.SYS, which locate every file. The list of the blocks of BITMAP.SYS is empty. The fault is out of memory, or the
+    /// fault of file 1.
     pub fn read_index(alloc: Global, image: &Image, home: Home) -> Result<Layout, LayoutFault>
         requires { IsHomeOf image.now home }
         ensures ok { IfOk result (λ layout. FindsFiles image.now layout × (layout.home ≡ home) × (layout.bitmap ≡ [])) }
@@ -79,7 +79,7 @@ impl Layout {
         }
     }
 
-    /// An equal layout, with room of its own.
+    /// Returns an equal layout, with room of its own.
     pub fn copy(&self) -> Result<Layout, AllocError>
         ensures { IfOk result (λ copy. copy ≡ self.now) }
     {
@@ -94,36 +94,36 @@ impl Layout {
         })
     }
 
-    /// The home block's fields.
+    /// Returns the fields of the home block.
     pub fn home(&self) -> Home
         ensures { result ≡ self.now.home }
     {
         self.home
     }
 
-    /// The blocks of INDEXF.SYS.
+    /// Returns the blocks of INDEXF.SYS.
     pub fn index(&self) -> &[u32]
         ensures { result.now ≡ self.now.index }
     {
         self.index.as_slice()
     }
 
-    /// The blocks of BITMAP.SYS.
+    /// Returns the blocks of BITMAP.SYS.
     pub fn bitmap(&self) -> &[u32]
         ensures { result.now ≡ self.now.bitmap }
     {
         self.bitmap.as_slice()
     }
 
-    /// How many of these stand one behind the other, from the first one that has bits on.
+    /// Returns the number of contiguous blocks of BITMAP.SYS, from the first block with bits on.
     pub fn bitmap_run(&self) -> usize
         ensures { IsBitmapRun self.now.bitmap result }
     {
         self.bitmap.run()
     }
 
-    /// Puts these blocks, as LBNs, behind those of INDEXF.SYS, in their order. Those past the most that it may ever have are passed over; for
-    /// the others there is room, so it takes no memory and never fails.
+    /// Appends these LBNs to the blocks of INDEXF.SYS, in order. LBNs beyond the most blocks that it can ever have are ignored. Room is reserved for
+    /// the others, so it allocates no memory and never fails.
     pub fn grow(&mut self, places: &[u32])
         ensures { self.new ≡ with_places self.old places.now }
     {
@@ -135,7 +135,7 @@ impl Layout {
         }
     }
 
-    /// Where header `number` stands.
+    /// Returns the LBN of header `number`, or `None` if the layout has none.
     pub fn place(&self, number: u16) -> Option<u32>
         ensures { result ≡ place_of self.now number }
     {

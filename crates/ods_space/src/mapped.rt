@@ -1,4 +1,4 @@
-//! Which of the blocks that a header maps stands at a place.
+//! Lookup of a block among the blocks that a header maps.
 ghost use Rattle.std.specs.Prelude.{◌≡◌, slice_get};
 ghost use Rattle.ods_header.specs.Header.{IsLaidOut, blocks_of};
 

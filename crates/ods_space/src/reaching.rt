@@ -1,4 +1,4 @@
-//! How far the chain of a number goes, be it whole or not: what its headers name, up to the last that is there.
+//! The extent of a chain, whole or not: the blocks that its headers map, up to the last header that exists.
 ghost use Rattle.std.specs.Prelude.{◌≡◌, ◌≢◌, ◌≤◌, ℕ, List, length, IfOk, IfSome, IfNone};
 ghost use Rattle.ods_space.specs.{Chain.IsIndex, Chain.chain_blocks, Reach.Begins, Reach.ReachesBy, Reach.IsReachOf};
 ghost use Rattle.ods_space.specs.Disks.{on};
@@ -10,18 +10,19 @@ use crate::survey::Surveyor;
 use crate::walk::{segment_block, walk};
 use std::alloc::{AllocError, Global};
 
-/// How far a chain goes, counted.
+/// The extent of a chain, counted.
 #[derive(Clone, Copy, Debug, PartialEq, Eq)]
 pub struct Reach {
-    /// The blocks that the headers name which are there.
+    /// The number of blocks that the existing headers map.
     pub count: u32,
-    /// One of them that lies past the image.
+    /// One of these blocks that is past the end of the image, if any.
     pub past: Option<u32>,
     /// Whether no header is missing.
     pub is_whole: bool,
 }
 
-/// What the headers of a number name, up to the last that is there: of a file with a whole chain all its blocks. There is nothing where the first header is not there.
+/// Returns the blocks that the headers of a number map, up to the last header that exists. If the chain is whole, these are all blocks of the file.
+/// Returns `None` if the first header does not exist.
 pub fn reach_blocks(
     alloc: Global,
     disk: &Disk<'_>,
@@ -35,7 +36,7 @@ pub fn reach_blocks(
     collect_reached(alloc, disk.image, &disk.layout.home(), index, number)
 }
 
-/// The same counted, with no memory. The layout has to have the blocks of INDEXF.SYS.
+/// Counts the blocks that [`reach_blocks`] returns, without allocation. The layout must have the blocks of INDEXF.SYS.
 pub fn count_reach(disk: &Disk<'_>, number: u16) -> Option<Reach>
     requires { IsIndex disk.now.image.now disk.now.layout.now.home disk.now.layout.now.index }
     ensures some { IfSome result (λ r. (blocks : List ℕ) × on ReachesBy disk.now number blocks r.is_whole × IsReachOf (length disk.now.image.now) blocks r) }

@@ -1,4 +1,4 @@
-//! What a chain maps, counted with no memory taken.
+//! Counting the blocks that a chain maps, without allocation.
 ghost use Rattle.std.specs.Prelude.{◌≡◌, ◌+◌, ◌^◌, ◌<◌, ◌≤◌, ◌++◌, ℕ, List, length, slice_get};
 ghost use Rattle.ods_header.specs.Header.{IsRun, run_blocks};
 ghost use Rattle.ods_space.specs.Walk.{IsSurveyOf, IsPast};
@@ -31,7 +31,7 @@ impl<'a> Surveyor<'a> {
     ghost use Rattle.std.specs.Prelude.{◌≡◌, []};
     ghost use Rattle.ods_space.specs.Walk.{IsSurveyOf};
 
-    /// No block is met yet.
+    /// Starts without any blocks.
     pub fn new(index: &'a [u32], len: u32, wanted: u32) -> Surveyor<'a>
         ensures { (result.index.now ≡ index.now) × (result.len ≡ len) × (result.wanted ≡ wanted) × IsSurveyOf len wanted result.survey [] }
     {

@@ -1,4 +1,4 @@
-//! The blocks of INDEXF.SYS and BITMAP.SYS, by which all else is found.
+//! The blocks of INDEXF.SYS and BITMAP.SYS, by which everything else is located.
 ghost use Rattle.std.specs.Prelude.{◌≡◌, Some, IfOk, IfErr};
 ghost use Rattle.ods_header.specs.Home.{IsHomeOf};
 ghost use Rattle.ods_space.specs.{Chain.IsIndex, Files.AreInside, Faults.IsLayoutFault, Faults.IsOfIndex, Faults.IsWholeIndex, Walk.Leads, Walk.layout_fault_of};

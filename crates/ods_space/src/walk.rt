@@ -1,4 +1,4 @@
-//! One walk along a chain of which nothing is known: each header is checked before it is noted.
+//! One walk along an unchecked chain. Each header is checked before it is noted.
 ghost use Rattle.std.specs.Prelude.{◌≡◌, ◌+◌, ◌<◌, ◌≤◌, [], ℕ, List, length, IfSome, IfNone, IfOk, MatchBool};
 ghost use Rattle.ods_header.specs.Header.{map_word, next_number_of};
 ghost use Rattle.ods_space.specs.{Layout.header_by, Chain.IsSegment, Chain.Follows, Chain.chain_blocks, Chain.known, Chain.most as most_of, Reach.Reaches, Walk.IsLink};

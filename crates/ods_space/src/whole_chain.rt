@@ -1,4 +1,4 @@
-//! Chains that are known to be whole, as each file's of a sound image is: no header is checked again.
+//! Chains that are known to be whole, as in a sound image. No header is checked again.
 ghost use Rattle.std.specs.Prelude.{◌≡◌, ◌≢◌, ℕ, List, length, IfSome, IfNone};
 ghost use Rattle.ods_space.specs.{Chain.IsChain, Files.HasBlocks, Files.Holds, Files.IsLayoutOf};
 ghost use Rattle.ods_space.specs.Disks.{header_on, on};
@@ -10,15 +10,15 @@ use ods_base::Block;
 use ods_header::{next_number, pointer_sum};
 use std::marker::Model;
 
-/// The headers of a chain, one after another. A contract sees those that are still to come, each with its number. The
-/// chain is known to be whole, so no header is checked again.
+/// The headers of a chain, in order. A contract sees the headers that are still to come, each with its number. The chain is known to be whole, so no
+/// header is checked again.
 #[derive(Drop)]
 pub struct ChainHeaders<'a> {
     disk: Disk<'a>,
-    /// The next header, 0 for none, and its block.
+    /// The next header, 0 if there is none, and its block.
     number: u16,
     block: &'a Block,
-    /// How many may come.
+    /// The most headers that can still come.
     left: u16,
 }
 
@@ -40,7 +40,7 @@ impl<'a> ChainHeaders<'a> {
     ghost use Rattle.ods_space.specs.{Chain.IsChain, Chain.headers_of, Files.IsLayoutOf};
     ghost use Rattle.ods_space.specs.Disks.{header_on, on, seen};
 
-    /// The headers of the chain of this file.
+    /// Makes a cursor over the headers of the chain of this file.
     pub fn of(disk: &Disk<'a>, number: u16) -> Self
         requires layout { on IsLayoutOf disk.now }
         requires chain { (others : List ℕ) × (blocks : List ℕ) × on IsChain disk.now number others blocks }
@@ -52,7 +52,7 @@ impl<'a> ChainHeaders<'a> {
         ChainHeaders::from(disk, number, first)
     }
 
-    /// The headers of the chain with this first header.
+    /// Makes a cursor over the headers of the chain with this first header.
     pub fn from(disk: &Disk<'a>, number: u16, first: &'a Block) -> Self
         requires layout { on IsLayoutOf disk.now }
         requires chain { (others : List ℕ) × (blocks : List ℕ) × on IsChain disk.now number others blocks }
@@ -69,7 +69,7 @@ impl<'a> ChainHeaders<'a> {
         }
     }
 
-    /// No headers: what comes behind the last one of a chain. `last` is any header of it.
+    /// Makes an empty cursor, past the last header of a chain. `last` is any header of the chain.
     pub fn none(disk: &Disk<'a>, last: &'a Block) -> Self
         ensures { result ≡ [] }
     {
@@ -81,7 +81,7 @@ impl<'a> ChainHeaders<'a> {
         }
     }
 
-    /// The next header and its number.
+    /// Returns the next header and its number, or `None` after the last one.
     pub fn next(&mut self) -> Option<(u16, &'a Block)>
         ensures some { IfSome result (λ h. (self.old ≡ (h.0, h.1.now) ∷ self.new) × IsValidHeader h.1.now h.0) }
         ensures none { IfNone result (self.old ≡ []) }
@@ -100,8 +100,8 @@ impl<'a> ChainHeaders<'a> {
     }
 }
 
-/// One block of a file with a whole chain, counted from 1. `first` is its first header. INDEXF.SYS has its blocks in the layout.
-/// Headers before that of the block are passed over by the counts of their pointers.
+/// Returns the LBN of one block of a file with a whole chain, counted from 1, or `None` if there is no such block. The file is not INDEXF.SYS, and
+/// `first` is its first header. It skips headers before the block by the counts of their pointers.
 pub fn locate_whole(disk: &Disk<'_>, number: u16, first: &Block, vbn: u32) -> Option<u32>
     requires layout { on IsLayoutOf disk.now }
     requires other { number ≢ 1 }
@@ -127,7 +127,7 @@ pub fn locate_whole(disk: &Disk<'_>, number: u16, first: &Block, vbn: u32) -> Op
     None
 }
 
-/// How many blocks a file with a whole chain has. `first` is its first header.
+/// Returns the number of blocks of a file with a whole chain. The file is not INDEXF.SYS, and `first` is its first header.
 pub fn count_whole(disk: &Disk<'_>, number: u16, first: &Block) -> u32
     requires layout { on IsLayoutOf disk.now }
     requires other { number ≢ 1 }

@@ -1,4 +1,5 @@
--- What a request that makes no file is answered by a sound image, and what it makes of the blocks: the forms in which proofs find a step and a refusal of `Served`.
+-- The answers of a sound image to requests that create no file, and the changes of its blocks. These are the forms in which proofs find a step and a
+-- refusal of `Served`.
 use Rattle.std.specs.Prelude.{◌≡◌, ◌≤◌, ℕ, List, MatchOption, None, Some}
 use Rattle.ods_base.specs.declared.file_id.Uic.{Uic}
 use Rattle.ods_header.specs.Header.{sequence_of}
@@ -18,25 +19,26 @@ use Rattle.ods_state.specs.Moves.{Moves, ChangesOnlyTouched}
 abbrev pub disk : List (List ℕ) → VolumeLayout → Disk
 disk I L = record { image = I; layout = L }
 
--- by the catalogue that the blocks show, the request is not refused, and this is its answer
+-- the catalogue that the blocks show does not refuse the request, and this is the answer
 abbrev pub IsAnsweredBy : List (List ℕ) → VolumeLayout → Uic → Request → Answer → Type 0
 IsAnsweredBy I L who r a = (C : Catalogue) → ShowsBy I L C → (fault_of C who r ≡ None) × (answer_of C r ≡ a)
 
--- by the catalogue that the blocks show, this is the first fault of the request
+-- in the catalogue that the blocks show, this is the first fault of the request
 abbrev pub IsFaultBy : List (List ℕ) → VolumeLayout → Uic → Request → Refusal → Type 0
 IsFaultBy I L who r f = (C : Catalogue) → ShowsBy I L C → fault_of C who r ≡ Some f
 
--- Why a request is refused that takes memory, where the volume lacks nothing: its first fault; or, where it has none, want of memory.
--- It is a form of `IsRefusalOf` (the law `refusal_is_one`).
+-- Why a request that takes memory is refused when the volume lacks nothing: its first fault, or otherwise out of memory. It is a form of
+-- `IsRefusalOf` (the law `refusal_is_one`).
 abbrev pub IsRefusedBy : List (List ℕ) → VolumeLayout → Uic → Request → Refusal → Type 0
 IsRefusedBy I L who r f = (C : Catalogue) → ShowsBy I L C → MatchOption (fault_of C who r) (f ≡ refusal.NoMemory) (λ g. f ≡ g)
 
--- The blocks J are what a request, answered so, makes of the blocks I. The layout stays. Where nothing is lacking it is `IsStepOf` (the law `carried_out_is_step`).
+-- The blocks I become the blocks J by a request with this answer. The layout is unchanged. If the volume lacks nothing, it is `IsStepOf` (the law
+-- `carried_out_is_step`).
 pub record IsCarriedOut (I : List (List ℕ)) (L : VolumeLayout) (who : Uic) (r : Request) (a : Answer) (J : List (List ℕ)) : Type 0 where
   pub answered : IsAnsweredBy I L who r a
   pub sound : IsSoundBy J L
   pub shown : (C : Catalogue) → ShowsBy I L C → ShowsBy J L (after C r)
-  -- no number's sequence word falls
+  -- no number's sequence word decreases
   pub sequences : (n : ℕ) → sequence_of (header_at I L n) ≤ sequence_of (header_at J L n)
   pub moves : Moves (disk I L) r a (disk J L)
   pub elsewhere : ChangesOnlyTouched (disk I L) r (disk J L)

@@ -1,4 +1,4 @@
--- What is left of a chain that is cut: it ends in the header that has the last block which the file keeps.
+-- A chain that is cut. It ends at the header of the last block that the file keeps.
 use Rattle.std.specs.Prelude.{◌≡◌, ℕ, ◌-◌, ◌<◌, ◌≤◌, ◌⊎◌, List, [], ◌∷◌, ◌++◌, length, drop}
 use Rattle.std.specs.List.{All, flat_map}
 use Rattle.ods_header.specs.Cutting.{IsCutTo, first_runs}
@@ -8,17 +8,18 @@ use Rattle.ods_header.specs.Writing.{deleted}
 use Rattle.ods_space.specs.Layout.{VolumeLayout, header_at}
 use Rattle.ods_alloc.specs.Extend.{ChangesOnly, GivesBits}
 
--- the blocks that these headers name, one header after another
+-- the blocks that these headers map, one header after another
 abbrev pub mapped_by : List (List ℕ) → VolumeLayout → List ℕ → List ℕ
 mapped_by I L numbers = flat_map (λ m. blocks_of (header_at I L m)) numbers
 
--- J is I with the file cut whose chain is n and then these headers, with these blocks: it keeps so many of the blocks, and the headers up to the one that has the last of them. That one is cut, those behind it are deleted, and the bits of what goes are given back.
+-- J is I after the file is cut whose chain is n and these headers, with these blocks. The file keeps its first `count` blocks, and the headers up to
+-- the header of the last of them. That header is cut, the headers after it are deleted, and the bits of their blocks and numbers are given back.
 pub record CutsOff (I : List (List ℕ)) (L : VolumeLayout) (n : ℕ) (others blocks : List ℕ) (count : ℕ) (J : List (List ℕ)) : Type 0 where
   pub front : List ℕ
   pub last : ℕ
   pub gone : List ℕ
   pub parts : n ∷ others ≡ front ++ last ∷ gone
-  -- the headers before the last one name fewer blocks, and with it they name so many
+  -- the headers before the last one map fewer than `count` blocks, and with it they map at least `count`
   pub fewer : (front ≡ []) ⊎ (length (mapped_by I L front) < count)
   pub passed : length (mapped_by I L front) ≤ count
   pub has : count ≤ length (mapped_by I L (front ++ last ∷ []))
@@ -26,7 +27,7 @@ pub record CutsOff (I : List (List ℕ)) (L : VolumeLayout) (n : ℕ) (others bl
   pub cut : IsCutTo (header_at I L last) (first_runs (count - length (mapped_by I L front)) (runs_of (header_at I L last))) (header_at J L last)
   pub fields : KeepsFields (header_at I L last) (header_at J L last)
   pub valid : (m : ℕ) → IsValidHeader (header_at I L last) m → IsValidHeader (header_at J L last) m
-  -- what is behind it is given back
+  -- the headers after it are given back
   pub headers : All (λ m. header_at J L m ≡ deleted (header_at I L m)) gone
   pub bits : GivesBits I L (drop count blocks) gone J
   pub only : ChangesOnly I L (last ∷ gone) J

@@ -1,5 +1,5 @@
--- A file that gets blocks, and headers for their pointers: what the blocks I of its volume become, J. It serves Create, Extend, and an Enter that takes a block.
--- K is I with what is written before the chain grows: the file's first header, and the blocks that are taken.
+-- A file that receives blocks, and headers for their pointers: the blocks I of its volume become J. This serves Create, Extend, and an Enter that
+-- allocates a block. K is I with the blocks that are written before the chain grows: the first header of the file, and the allocated blocks.
 use Rattle.std.specs.Prelude.{◌≡◌, ◌≢◌, ◌⊎◌, ℕ, ◌+◌, ◌≤◌, List, [], ◌∷◌, ◌++◌, length, drop, None, Some}
 use Rattle.std.specs.List.{Contains}
 use Rattle.ods_base.specs.Image.{block_at}
@@ -17,20 +17,20 @@ use Rattle.ods_state.specs.Wants.{HasHeaders, index_growth, lack_of, allocated_b
 abbrev pub HadHeaders : List (List ℕ) → VolumeLayout → ℕ → List ℕ → List ℕ → Type 0
 HadHeaders I L n headers old = (IsFile I L n × HasHeaders I L n headers old) ⊎ ((headers ≡ []) × (old ≡ []))
 
--- the headers of file n then, where `numbers` are its new ones behind the first: a new file's first header is new too
+-- the headers of file n after growth, if `numbers` are its new headers after the first; the first header of a new file is new too
 abbrev pub all_headers : ℕ → List ℕ → List ℕ → List ℕ
 all_headers n headers numbers = n ∷ drop 1 headers ++ numbers
 
--- There is what a file with these headers and blocks takes to get `count` blocks.
+-- The volume has what a file with these headers and blocks needs to receive `count` blocks.
 pub record IsTaking (I : List (List ℕ)) (L : VolumeLayout) (n : ℕ) (headers old : List ℕ) (count : ℕ) (numbers : List ℕ) : Type 0 where
   pub above : 3 ≤ n
   pub before : HadHeaders I L n headers old
   pub all : all_headers n headers numbers ≡ headers ++ allocated_numbers I L headers count
   pub enough : lack_of I L headers count ≡ None
-  -- INDEXF.SYS has a block for each number that is taken
+  -- INDEXF.SYS has a block for each allocated number
   pub no_growth : index_growth L (allocated_numbers I L headers count) ≡ 0
 
--- c is written for the first header b of a file that is there: it links alike, and keeps its form and its pointers
+-- c replaces the first header b of an existing file: it has the same links, form and pointers
 pub record IsKeptFirst (b c : List ℕ) (n : ℕ) : Type 0 where
   pub links : SameLinks b c n
   pub back : SameLinks c b n
@@ -39,7 +39,7 @@ pub record IsKeptFirst (b c : List ℕ) (n : ℕ) : Type 0 where
   pub pointers : runs_of c ≡ runs_of b
   pub room : room_of c ≡ room_of b
 
--- c is the first header of a new file, with no pointer and no next header; b was in its place
+-- c is the first header of a new file, with no pointer and no next header; it replaces b
 pub record IsNewFirst (b c : List ℕ) (n : ℕ) : Type 0 where
   pub valid : IsValidHeader c n
   pub segment : segment_of c ≡ 0
@@ -50,12 +50,12 @@ pub record IsNewFirst (b c : List ℕ) (n : ℕ) : Type 0 where
   pub form : IsMadeHeader c
   pub sequence : sequence_of c ≡ sequence_of b + 1
 
--- c is written for b as the first header of a file that had these
+-- c replaces b as the first header of a file that had these headers
 abbrev pub IsFirstFor : List ℕ → List ℕ → List ℕ → ℕ → Type 0
 IsFirstFor [] b c n = IsNewFirst b c n
 IsFirstFor (h ∷ hs) b c n = IsKeptFirst b c n
 
--- K is I with the first header and the taken blocks written
+-- K is I with the first header and the allocated blocks written
 pub record IsReady (I K : List (List ℕ)) (L : VolumeLayout) (n : ℕ) (headers : List ℕ) (count : ℕ) : Type 0 where
   pub long : length K ≡ length I
   pub first : IsFirstFor headers (header_at I L n) (header_at K L n) n
@@ -67,7 +67,7 @@ pub record IsGrowth (I J : List (List ℕ)) (L : VolumeLayout) (n : ℕ) (header
   pub long : length J ≡ length I
   pub chain : IsChain J L n (drop 1 headers ++ numbers) (old ++ allocated_blocks I L count)
   pub pointers : chain_runs J L (all_headers n headers numbers) ≡ chain_runs I L headers ++ cut (allocated_blocks I L count)
-  -- each other header stays; of these the sequence numbers stay but for new ones, which have one more
+  -- every other header is unchanged; an old header keeps its sequence number, and a new one has one more than before
   pub stays : (m : ℕ) → ¬ Contains (all_headers n headers numbers) m → header_at J L m ≡ header_at I L m
   pub kept : (m : ℕ) → Contains headers m → sequence_of (header_at J L m) ≡ sequence_of (header_at I L m)
   pub raised : (m : ℕ) → Contains (allocated_numbers I L headers count) m → sequence_of (header_at J L m) ≡ sequence_of (header_at I L m) + 1

@@ -1,4 +1,4 @@
--- Laws of what blocks show, over the definitions alone.
+-- Laws about the definitions of what blocks show.
 use Rattle.std.specs.Prelude.{◌≡◌, ◌<◌, ℕ, true, false, List, [], ◌∷◌, ◌++◌, length, slice_set, Some}
 use Rattle.std.specs.List.{Contains}
 use Rattle.ods_space.specs.Layout.{VolumeLayout, header_at, is_in_use, place_of}
@@ -24,7 +24,7 @@ use Rattle.ods_state.specs.Wants.{Lacks}
 abbrev pub HasCatalogue : Type 0
 HasCatalogue = (I : List (List ℕ)) (L : VolumeLayout) → IsSoundBy I L → (C : Catalogue) × IsCatalogueOf I C × ShowsBy I L C
 
--- it has only one, by its one layout, and entries make only one of it
+-- a sound image has only one catalogue, by its only layout, and a list of entries turns it into only one catalogue
 pub record CatalogueIsOne : Type 0 where
   pub layout : (I : List (List ℕ)) (L M : VolumeLayout) → IsLayoutOf I L → IsLayoutOf I M → L ≡ M
   pub catalogue : (I : List (List ℕ)) (C D : Catalogue) → IsCatalogueOf I C → IsCatalogueOf I D → C ≡ D
@@ -35,34 +35,34 @@ abbrev pub MountedIsLawful : Type 0
 MountedIsLawful = (I : List (List ℕ)) (L : VolumeLayout) (limit : ℕ) → IsSoundBy I L
     → IsLawful (record { mounted = I; entries = []; image = I; layout = L; limit = limit })
 
--- A lawful volume stays lawful by one entry more, where its blocks become a sound image that shows what the entry's step makes of
--- the present catalogue, and no ID of the past can be given again.
+-- A lawful volume stays lawful after one more entry. Its blocks become a sound image, which shows the result of the step of the entry on the present
+-- catalogue, and no ID of the past can be assigned again.
 abbrev pub StepStaysLawful : Type 0
 StepStaysLawful = (v : State) (e : Entry) (J : List (List ℕ)) (L : VolumeLayout) (C D : Catalogue) → IsLawful v → length v.entries < v.limit
     → IsPresent v C → step C e.who e.request e.answer ≡ Some D → IsSoundBy J L → ShowsBy J L D → PastIsSpent J L D
     → IsLawful (record { mounted = v.mounted; entries = v.entries ++ e ∷ []; image = J; layout = L; limit = v.limit })
 
--- Where headers and index bits change of these numbers alone, and a file whose first header is not among them has no header among them,
--- such a file has the blocks that it had.
+-- Headers and index bits change only for these numbers. No file outside these numbers has a header among them in its chain. Then each such file keeps
+-- its blocks.
 abbrev pub UntouchedFilesStay : Type 0
 UntouchedFilesStay = (I J : List (List ℕ)) (L : VolumeLayout) (changed : List ℕ) → IsSoundBy I L → length J ≡ length I
     → ((n : ℕ) → ¬ Contains changed n → (header_at J L n ≡ header_at I L n) × (is_in_use J L.home n ≡ is_in_use I L.home n))
     → ((n : ℕ) (others blocks : List ℕ) → IsFile I L n → IsChain I L n others blocks → ¬ Contains changed n → (m : ℕ) → Contains (n ∷ others) m → ¬ Contains changed m)
     → (n : ℕ) (blocks : List ℕ) → ¬ Contains changed n → HasBlocks I L n blocks → HasBlocks J L n blocks
 
--- Where header n is replaced by one that links alike, every file has the blocks that it had.
+-- If header n is replaced by a header with the same links, every file keeps its blocks.
 abbrev pub LinkedHeaderKeepsBlocks : Type 0
 LinkedHeaderKeepsBlocks = (I : List (List ℕ)) (L : VolumeLayout) (n lbn : ℕ) (b : List ℕ) → IsSoundBy I L → place_of L n ≡ Some lbn
     → SameLinks (header_at I L n) b n → SameLinks b (header_at I L n) n
     → (m : ℕ) (blocks : List ℕ) → HasBlocks I L m blocks → HasBlocks (slice_set I lbn b) L m blocks
 
--- A request that makes no file, and that is carried out with all that it takes there, is a step; the layout stays.
+-- A request that creates no file is a step if it is carried out and the volume lacks nothing for it. The layout is unchanged.
 abbrev pub CarriedOutIsStep : Type 0
 CarriedOutIsStep = (I J : List (List ℕ)) (L : VolumeLayout) (who : Uic) (r : Request) (a : Answer) → creates r ≡ false → ((f : Refusal) → ¬ Lacks I L r f)
     → IsCarriedOut I L who r a J → IsStepOf I L who r a J L
 
--- A first fault is a refusal, and so is a want of memory of a request that takes memory. Where the volume lacks nothing, a refusal is no
--- other; and where the request takes no memory either, it is the first fault.
+-- A first fault is a refusal, and so is out of memory for a request that takes memory. If the volume lacks nothing, there is no other refusal. If the
+-- request takes no memory either, the refusal is the first fault.
 pub record RefusalIsOne (I : List (List ℕ)) (L : VolumeLayout) (who : Uic) (r : Request) (f : Refusal) : Type 0 where
   pub by_fault : IsFaultBy I L who r f → IsRefusalOf I L who r f
   pub by_memory : takes_memory r ≡ true → IsRefusedBy I L who r f → IsRefusalOf I L who r f

@@ -1,8 +1,8 @@
--- What a header does for its chain: two headers that link alike may stand for one another.
+-- The links of a header in its chain. Two headers with the same links can replace each other.
 use Rattle.std.specs.Prelude.{◌≡◌, ℕ, List}
 use Rattle.ods_header.specs.Header.{IsValidHeader, segment_of, sequence_of, next_volume_of, next_number_of, next_sequence_of, blocks_of}
 
--- as header n, c links as b does: it is valid where b is, is the same segment of its chain, the same next header and the same blocks
+-- as header n, c has the links of b: it is valid if b is, and has the same segment, next header and blocks
 pub record SameLinks (b c : List ℕ) (n : ℕ) : Type 0 where
   pub valid : IsValidHeader b n → IsValidHeader c n
   pub segment : segment_of c ≡ segment_of b

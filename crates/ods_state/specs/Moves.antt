@@ -1,4 +1,4 @@
--- How the blocks that files hold, the free blocks and the free numbers move in an accepted request, and which blocks it may change.
+-- How the blocks of files, the free blocks and the free numbers move in an accepted request, and which blocks it may change.
 use Rattle.std.specs.Prelude.{◌≡◌, ◌≢◌, ◌↔◌, ℕ, ◌+◌, ◌-◌, ◌<◌, ◌≤◌, ◌⊎◌, not, ◌&&◌, ◌||◌, ◌==◌, nat_lt, List, [], ◌∷◌, ◌++◌, length, replicate, take, drop, slice_get, if◌then◌else◌, Some}
 use Rattle.std.specs.List.{All, Contains, flat_map}
 use Rattle.ods_base.specs.Image.{block_at}
@@ -22,11 +22,11 @@ use Rattle.ods_alloc.specs.Extend.{GivesBits, IsHeaderPlace, IsIndexBitmap, IsSt
 use Rattle.ods_state.specs.Wants.{HasHeaders, Wants, index_blocks, index_end, allocated_blocks, allocated_numbers}
 use Rattle.ods_state.specs.Made.{AreMade, AreZeroed, IndexGrows, IsEnteredAt, IsErased, header_on}
 
--- file n of a disk holds this LBN as this block
+-- file n of a disk holds this LBN as this VBN
 abbrev pub holds_on : Disk → ℕ → ℕ → ℕ → Type 0
 holds_on D n vbn lbn = Holds D.image D.layout n vbn lbn
 
--- nothing moves: the layout and each chain stay, and so does what is held and what is free
+-- nothing moves: the layout, every chain, the held blocks and the free blocks and numbers are unchanged
 pub record NothingMoves (D E : Disk) : Type 0 where
   pub layout : E.layout ≡ D.layout
   pub chains : (n : ℕ) (others blocks : List ℕ) → IsChain D.image D.layout n others blocks → IsChain E.image E.layout n others blocks
@@ -34,30 +34,31 @@ pub record NothingMoves (D E : Disk) : Type 0 where
   pub free : (lbn : ℕ) → is_free_block E.image E.layout lbn ≡ is_free_block D.image D.layout lbn
   pub numbers : (n : ℕ) → is_free_number E.image E.layout n ≡ is_free_number D.image D.layout n
 
--- file n holds LBN x as this block: one of these, which file m holds behind so many of its own
+-- file n holds LBN x at this VBN: it is file m, and x is one of these blocks, which it holds after `count` of its own
 abbrev pub IsNextBlock : ℕ → ℕ → List ℕ → ℕ → ℕ → ℕ → Type 0
 IsNextBlock m count blocks n vbn lbn = (k : ℕ) × (n ≡ m) × (vbn ≡ count + k + 1) × (slice_get blocks k ≡ Some lbn)
 
--- Blocks and numbers were taken for a file that had these headers and blocks: its number is the first of all its headers. INDEXF.SYS got as many blocks as these numbers need.
+-- Blocks and numbers were allocated for a file that had these headers and blocks. Its number is the first of all its headers. INDEXF.SYS received the
+-- blocks that these numbers need.
 pub record AreAllocated (D E : Disk) (headers blocks : List ℕ) (count : ℕ) : Type 0 where
   pub number : ℕ
   pub layout : E.layout ≡ with_places D.layout (index_blocks D.image D.layout headers count)
   pub chain : HasHeaders E.image E.layout number (headers ++ allocated_numbers D.image D.layout headers count) (blocks ++ allocated_blocks D.image D.layout count)
   pub pointers : chain_runs E.image E.layout (headers ++ allocated_numbers D.image D.layout headers count) ≡ chain_runs D.image D.layout headers ++ cut (allocated_blocks D.image D.layout count)
-  -- the file holds the blocks that it took behind its own, and so does INDEXF.SYS
+  -- the file holds its new blocks after its own, and so does INDEXF.SYS
   pub held : (n vbn lbn : ℕ) → holds_on E n vbn lbn
       ↔ (holds_on D n vbn lbn ⊎ IsNextBlock number (length blocks) (allocated_blocks D.image D.layout count) n vbn lbn
       ⊎ IsNextBlock 1 (length D.layout.index) (index_blocks D.image D.layout headers count) n vbn lbn)
   pub free : (lbn : ℕ) → is_free_block E.image E.layout lbn
       ≡ (is_free_block D.image D.layout lbn && not (is_one_of (allocated_blocks D.image D.layout count ++ index_blocks D.image D.layout headers count) lbn))
-  -- the numbers are counted up to the last for which INDEXF.SYS has a block now
+  -- the numbers are counted up to the last one for which INDEXF.SYS now has a block
   pub numbers : (n : ℕ) → is_free_number E.image E.layout n
       ≡ (is_open_number D.image D.layout (last_number E.layout) n && not (is_one_of (allocated_numbers D.image D.layout headers count) n))
-  -- of the two bitmaps just the bits of these change
+  -- in the two bitmaps, only the bits of these blocks and numbers change
   pub bits : AllocatesBits D.image D.layout (allocated_blocks D.image D.layout count ++ index_blocks D.image D.layout headers count) (allocated_numbers D.image D.layout headers count) E.image
-  -- each new header has the old sequence number plus one; where there was no block for it, that was 0
+  -- each new header has the old sequence number plus one; without a block before, the old sequence number is 0
   pub sequences : (n : ℕ) → Contains (allocated_numbers D.image D.layout headers count) n → sequence_of (header_on E n) ≡ sequence_of (header_on D n) + 1
-  -- and this is how its headers are made, and how INDEXF.SYS grows
+  -- how its headers are written, and how INDEXF.SYS grows
   pub made : AreMade D E headers (allocated_numbers D.image D.layout headers count)
   pub index : IndexGrows D E (index_blocks D.image D.layout headers count) (allocated_numbers D.image D.layout headers count)
 
@@ -72,22 +73,22 @@ pub record AreGivenBack (D E : Disk) (number : ℕ) : Type 0 where
       ≡ (is_free_block D.image D.layout lbn || (is_one_of blocks lbn && is_covered D.layout lbn))
   pub numbers : (n : ℕ) → is_free_number E.image E.layout n
       ≡ (is_free_number D.image D.layout n || (is_one_of headers n && (nat_lt 5 n && nat_lt (sequence_of (header_on D n)) 65535)))
-  -- of the two bitmaps just the bits of these change
+  -- in the two bitmaps, only the bits of these blocks and numbers change
   pub bits : GivesBits D.image D.layout blocks headers E.image
-  -- a header that is given back keeps its bytes but its number, now 0, and its sum
+  -- a header that is given back keeps its bytes except its number, now 0, and its checksum
   pub kept : (n : ℕ) → Contains headers n → header_on E n ≡ deleted (header_on D n)
 
--- the blocks that these headers name, one header after another
+-- the blocks that these headers map, one header after another
 abbrev pub mapped_on : Disk → List ℕ → List ℕ
 mapped_on D numbers = flat_map (λ n. blocks_of (header_on D n)) numbers
 
--- these are the headers of a chain up to the one that has this block of the file, counted from 1; up to the first for none
+-- the headers of a chain up to the header of this block, counted from 1; for block 0, only the first header
 pub record EndsAt (D : Disk) (kept : List ℕ) (block : ℕ) : Type 0 where
   pub some : 1 ≤ length kept
   pub has : block ≤ length (mapped_on D kept)
   pub first : (k : ℕ) → 1 ≤ k → k < length kept → length (mapped_on D (take k kept)) < block
 
--- A file kept its first blocks, so many, and its headers up to the one that has the last of them. The other blocks and headers were given back.
+-- A file kept its first `count` blocks, and its headers up to the header of the last of them. Its other blocks and headers were given back.
 pub record AreCutOff (D E : Disk) (number count : ℕ) : Type 0 where
   pub layout : E.layout ≡ D.layout
   pub kept : List ℕ
@@ -102,57 +103,59 @@ pub record AreCutOff (D E : Disk) (number count : ℕ) : Type 0 where
       ≡ (is_free_block D.image D.layout lbn || (is_one_of (drop count blocks) lbn && is_covered D.layout lbn))
   pub numbers : (n : ℕ) → is_free_number E.image E.layout n
       ≡ (is_free_number D.image D.layout n || (is_one_of gone n && (nat_lt 5 n && nat_lt (sequence_of (header_on D n)) 65535)))
-  -- of the two bitmaps just the bits of these change
+  -- in the two bitmaps, only the bits of these blocks and numbers change
   pub bits : GivesBits D.image D.layout (drop count blocks) gone E.image
-  -- a header that is given back keeps its bytes but its number, now 0, and its sum
+  -- a header that is given back keeps its bytes except its number, now 0, and its checksum
   pub deletes : (n : ℕ) → Contains gone n → header_on E n ≡ deleted (header_on D n)
-  -- of the headers that it keeps the last alone changes: its pointers past the last block go, the one that holds that block is cut, and no header is next
+  -- of the kept headers only the last changes: its pointers past the last block are dropped, the pointer of that block is cut, and it has no next
+  -- header
   pub stays : (front : List ℕ) (last : ℕ) → kept ≡ front ++ last ∷ [] → All (λ n. header_on E n ≡ header_on D n) front
   pub last : (front : List ℕ) (last : ℕ) → kept ≡ front ++ last ∷ []
       → IsCutTo (header_on D last) (first_runs (count - length (mapped_on D front)) (runs_of (header_on D last))) (header_on E last)
 
--- an ID that is created is the first number taken, with its new sequence number
+-- the number of a created ID is the first allocated number, and its sequence number is the new one
 abbrev pub IsCreatedId : Disk → Disk → Answer → Type 0
 IsCreatedId D E (Created id) = (id.sequence ≡ sequence_of (header_on E id.number)) × (slice_get (allocated_numbers D.image D.layout [] 0) 0 ≡ Some id.number)
 IsCreatedId D E _ = Unit {0}
 
--- The attributes of a new file are zeros; of a new directory they say that its records have 16 bytes, how many blocks it has, and that its names end at byte 0.
+-- The attributes of a new file are zeros. The attributes of a new directory store a record size of 16 bytes, its number of blocks, and its end mark
+-- at byte 0.
 abbrev pub new_attributes : RadName → ℕ → List ℕ
 new_attributes name count =
     if name.ext == directory_type then marked (1 ∷ 0 ∷ 16 ∷ 0 ∷ replicate 28 0) 0 count
     else replicate 32 0
 
--- a file that was created has the attributes of a new one
+-- a created file has the attributes of a new file
 abbrev pub HasNewAttributes : Disk → Answer → RadName → ℕ → Type 0
 HasNewAttributes E (Created id) name count = attributes_of (header_on E id.number) ≡ new_attributes name count
 HasNewAttributes E _ name count = Unit {0}
 
--- the header has other attributes at most
+-- the header is unchanged except for its attributes and checksum
 abbrev pub ChangesAttributes : List ℕ → List ℕ → Type 0
 ChangesAttributes b c = IsWithAttributes b (attributes_of c) c
 
--- a name that was entered stands in the directory, under the version that the answer says
+-- a name that was entered is in the directory, under the version of the answer
 abbrev pub IsNameEntered : Disk → Disk → FileId → RadName → FileId → Answer → Type 0
 IsNameEntered D E dir name file (Entered version) = IsEnteredAt D E dir.number (entry_bytes file (key_of name version))
 IsNameEntered D E dir name file _ = Unit {0}
 
--- a name that was removed, of the version that the answer says, is in the directory no more
+-- a name that was removed, of the version of the answer, is no longer in the directory
 abbrev pub IsNameErased : Disk → Disk → FileId → RadName → Answer → Type 0
 IsNameErased D E dir name (Removed file version) = IsErased D E dir.number (key_of name version)
 IsNameErased D E dir name _ = Unit {0}
 
--- it takes blocks and they are taken, or it takes none and nothing moves
+-- either the request needs blocks and they are allocated, or it needs none and nothing moves
 abbrev pub MayAllocate : Disk → Disk → Request → Type 0
 MayAllocate D E r =
     ((headers : List ℕ) (blocks : List ℕ) (count : ℕ) → Wants D.image D.layout r headers blocks count → AreAllocated D E headers blocks count)
     × (((headers : List ℕ) (blocks : List ℕ) (count : ℕ) → ¬ Wants D.image D.layout r headers blocks count) → NothingMoves D E)
 
--- the first header of directory dir has other attributes at most, where the request takes no block
+-- if the request needs no block, the first header of directory dir is unchanged except for its attributes and checksum
 abbrev pub KeepsHeader : Disk → Disk → Request → FileId → Type 0
 KeepsHeader D E r dir =
     ((headers : List ℕ) (blocks : List ℕ) (count : ℕ) → ¬ Wants D.image D.layout r headers blocks count) → ChangesAttributes (header_on D dir.number) (header_on E dir.number)
 
--- what an accepted request moves and makes, case by case
+-- what an accepted request moves and writes, case by case
 abbrev pub Moves : Disk → Request → Answer → Disk → Type 0
 Moves D (Create name version count stamp) a E =
     MayAllocate D E (Create name version count stamp) × IsCreatedId D E a × HasNewAttributes E a name count × AreZeroed D E count
@@ -173,24 +176,24 @@ Moves D (SetUser file attributes) a E = NothingMoves D E × IsWithAttributes (he
 abbrev pub IsBlockOf : Disk → ℕ → ℕ → Type 0
 IsBlockOf D n x = (vbn : ℕ) × holds_on D n vbn x
 
--- where INDEXF.SYS gets these blocks, they and its last header may change
+-- if INDEXF.SYS receives these blocks, they and its last header may change
 abbrev pub TouchedByIndex : Disk → List ℕ → ℕ → Type 0
 TouchedByIndex D blocks x = Contains blocks x ⊎ ((blocks ≢ []) × IsHeaderPlace D.layout (index_end D.image D.layout ∷ []) x)
 
--- the request may change the block at x, where it takes blocks
+-- the request may change block x because it allocates blocks
 abbrev pub TouchedByAllocating : Disk → Request → Disk → ℕ → Type 0
 TouchedByAllocating D r E x =
     (headers : List ℕ) × (blocks : List ℕ) × (count : ℕ) × Wants D.image D.layout r headers blocks count
     × (IsIndexBitmap D.layout x ⊎ IsStorageBitmap D.layout x ⊎ IsHeaderPlace D.layout (headers ++ allocated_numbers D.image D.layout headers count) x
     ⊎ Contains (allocated_blocks D.image D.layout count) x ⊎ TouchedByIndex D (index_blocks D.image D.layout headers count) x)
 
--- the request may change the block at x, where it gives back what file n has
+-- the request may change block x because it gives back what file n has
 abbrev pub TouchedByGiving : Disk → ℕ → ℕ → Type 0
 TouchedByGiving D n x =
     IsIndexBitmap D.layout x ⊎ IsStorageBitmap D.layout x
     ⊎ ((headers : List ℕ) × (blocks : List ℕ) × HasHeaders D.image D.layout n headers blocks × IsHeaderPlace D.layout headers x)
 
--- the request may change the block at x
+-- the request may change block x
 abbrev pub Touches : Disk → Request → Disk → ℕ → Type 0
 Touches D (Create name version count stamp) E x = TouchedByAllocating D (Create name version count stamp) E x
 Touches D (Extend file count) E x = TouchedByAllocating D (Extend file count) E x
@@ -206,6 +209,6 @@ Touches D (Read file vbn) E x = ⊥
 Touches D (Lines dir) E x = ⊥
 Touches D (Stat file) E x = ⊥
 
--- each other block is as before
+-- every other block is unchanged
 abbrev pub ChangesOnlyTouched : Disk → Request → Disk → Type 0
 ChangesOnlyTouched D r E = (length E.image ≡ length D.image) × ((x : ℕ) → ¬ Touches D r E x → block_at E.image x ≡ block_at D.image x)

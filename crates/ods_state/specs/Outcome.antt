@@ -1,4 +1,4 @@
--- What a request makes of a volume, and why it is refused.
+-- The effect of a request on a volume, and why it is refused.
 use Rattle.std.specs.Prelude.{◌≡◌, ℕ, ◌<◌, ◌≤◌, true, List, [], ◌∷◌, ◌++◌, length, IsSome, MatchOption, Option, Some}
 use Rattle.ods_base.specs.declared.file_id.Uic.{Uic}
 use Rattle.ods_space.specs.Draft.{Changes, applied}
@@ -24,7 +24,8 @@ use Rattle.ods_state.specs.Moves.{Moves, ChangesOnlyTouched}
 abbrev pub disk_of : State → Disk
 disk_of v = record { image = v.image; layout = v.layout }
 
--- The request is accepted with this answer: it is a step of the present catalogue, and stands at the end of the list; blocks and numbers move as it says; no other block changes.
+-- The request is accepted with this answer. It is a step of the present catalogue and the last entry of the list. Blocks and numbers move as the
+-- request requires, and no other block changes.
 pub record Accepts (old : State) (e : Entry) (new : State) : Type 0 where
   pub steps : (C : Catalogue) → IsPresent old C → IsSome (step C e.who e.request e.answer)
   pub entries : new.entries ≡ old.entries ++ e ∷ []
@@ -40,8 +41,8 @@ pub data IsReason (v : State) (who : Uic) (r : Request) : Refusal → Type 0 whe
   lacks : (f : Refusal) → Lacks v.image v.layout r f → IsReason v who r f
   no_memory : takes_memory r ≡ true → IsReason v who r refusal.NoMemory
 
--- a request that is accepted, with its answer, the blocks that it changes, those that INDEXF.SYS gets, the counts of the bitmaps afterwards, where they are made anew,
--- and what is noted then of where a file's chain ends
+-- an accepted request with its answer, the blocks that it changes, and the blocks that INDEXF.SYS receives; the new counts of the bitmaps, if they
+-- are computed; and the new note about the end of a file's chain
 pub record Plan : Type 0 where
   pub entry : Entry
   pub changes : Changes
@@ -49,7 +50,7 @@ pub record Plan : Type 0 where
   pub counts : Option Counts
   pub end : Option KnownEnd
 
--- the volume with the plan made
+-- the volume after the plan is carried out
 unfoldable pub carried_out : State → Plan → State
 carried_out v p = record {
   mounted = v.mounted;
@@ -67,11 +68,11 @@ pub record IsLawfulPlan (v : State) (p : Plan) : Type 0 where
   pub counted : AreCountsAfter v.image (applied v.image p.changes) v.layout p.counts
   pub ended : IsKnownIn (applied v.image p.changes) (with_places v.layout p.places) p.end
 
--- a version that is given is 1 to 32,767
+-- a version is a number from 1 to 32,767
 abbrev pub IsVersionNumber : ℕ → Type 0
 IsVersionNumber v = (1 ≤ v) × (v ≤ 32767)
 
--- the versions that a request gives are versions
+-- the version that a request specifies is a valid one
 abbrev pub CanBeAsked : Request → Type 0
 CanBeAsked r = MatchOption (given_version r) (Unit {0}) IsVersionNumber
 

@@ -1,6 +1,6 @@
-//! What is noted of a file from one request to the next.
+//! Notes about a file that are kept from one request to the next.
 
-/// Where the chain of a file ends: how many headers it has, how many blocks they map, and the number of the last of them.
+/// The end of a file's chain: the number of its headers, the number of blocks that they map, and the number of the last header.
 #[derive(Clone, Copy)]
 pub struct KnownEnd {
     pub file: u16,

@@ -1,7 +1,7 @@
-//! What is noted of a directory from one request to the next.
+//! Notes about a directory that are kept from one request to the next.
 use ods_directory::Tags;
 
-/// The blocks of a directory in order, and the tags of the entries in each of them.
+/// The blocks of a directory in order, and the tags of the entries in each block.
 #[derive(Drop)]
 pub struct KnownNames {
     pub file: u16,

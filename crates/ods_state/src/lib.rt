@@ -1,5 +1,5 @@
-//! What a volume's blocks show and how requests change it: its catalogue, its versions, what a request takes and moves. Definitions
-//! and laws, no code that runs; and what is noted of a file from one request to the next.
+//! What the blocks of a volume show, and how requests change it: its catalogue and versions, and what a request allocates and moves. The crate has
+//! definitions, laws, and notes about files between requests, but no running code.
 #![tactic(auto)]
 
 mod known_end;

@@ -7,20 +7,20 @@ use Rattle.std.specs.Fmt.{decimal}
 abbrev pub IsLargeNumber : List ℕ → ℕ → Type 0
 IsLargeNumber text n = (n < 2 ^ 64) × (text ≡ decimal n)
 
--- one below 2^32
+-- a number below 2^32 in decimal, without leading zeros
 abbrev pub IsNumber : List ℕ → ℕ → Type 0
 IsNumber text n = (n < 2 ^ 32) × (text ≡ decimal n)
 
--- one below 2^16
+-- a number below 2^16 in decimal, without leading zeros
 abbrev pub IsSmallNumber : List ℕ → ℕ → Type 0
 IsSmallNumber text n = (n < 2 ^ 16) × (text ≡ decimal n)
 
--- the digits from the left, in octal
+-- the value of octal digits, read from the left, after n
 abbrev pub octal_value : ℕ → List ℕ → ℕ
 octal_value n [] = n
 octal_value n (c ∷ text) = octal_value (n * 8 + (c - 48)) text
 
--- one to three octal digits, at most 377
+-- an octal number of one to three digits, at most 377
 pub record IsOctal (text : List ℕ) (n : ℕ) : Type 0 where
   pub some : 1 ≤ length text
   pub few : length text ≤ 3

@@ -7,6 +7,6 @@ use Rattle.ods_text.specs.Cuts.{IsPair}
 abbrev pub IsUser : List ℕ → ℕ × ℕ → Type 0
 IsUser text x = IsPair 44 IsOctal IsOctal text x
 
--- [g,m]: the same between brackets
+-- [g,m]: a user in brackets
 abbrev pub IsUserInBrackets : List ℕ → ℕ × ℕ → Type 0
 IsUserInBrackets text x = (inner : List ℕ) × (text ≡ 91 ∷ (inner ++ 93 ∷ [])) × IsUser inner x

@@ -1,30 +1,30 @@
-//! Texts that are cut in two.
+//! Comparing texts, and splitting them at a byte.
 ghost use Rattle.std.specs.Prelude.{◌≡◌, ◌↔◌, IsTrue, MatchOption};
 ghost use Rattle.std.specs.List.{before_first, after_first, before_last, after_last};
 ghost use Rattle.ods_text.specs.Cuts.{is, IsFirst, Has, Lacks, cut_of};
 
-/// Whether the bytes are these.
+/// Returns whether the bytes equal `text`.
 pub fn is_text(bytes: &[u8], text: &[u8]) -> bool
     ensures { IsTrue result ↔ (bytes.now ≡ text.now) }
 {
     bytes == text
 }
 
-/// The place of the first `byte`, or the length where there is none.
+/// Returns the index of the first `byte`, or the length of the text if it has none.
 pub fn place_of(byte: u8, text: &[u8]) -> usize
     ensures { IsFirst (is byte) text.now result }
 {
     text.iter().position(|b| *b == byte).unwrap_or(text.len())
 }
 
-/// Whether the text has the byte.
+/// Returns whether the text contains the byte.
 pub fn has_byte(byte: u8, text: &[u8]) -> bool
     ensures { IsTrue result ↔ Has byte text.now }
 {
     place_of(byte, text) < text.len()
 }
 
-/// What stands before the first `byte`, and what stands behind it; `None` where there is none.
+/// Splits the text at the first `byte`, which neither part keeps. Returns `None` if the text does not contain the byte.
 pub fn cut_at(byte: u8, text: &[u8]) -> Option<(&[u8], &[u8])>
     ensures place { MatchOption result (Lacks byte text.now) (λ p. Has byte text.now
         × (p.0.now ≡ before_first (is byte) text.now) × (p.1.now ≡ after_first (is byte) text.now)) }
@@ -37,7 +37,8 @@ pub fn cut_at(byte: u8, text: &[u8]) -> Option<(&[u8], &[u8])>
     Some((&text[..place], &text[place + 1..]))
 }
 
-/// What stands before the last `byte`, or nothing where there is none; and what stands behind it, or all.
+/// Splits the text at the last `byte`, which neither part keeps. If the text does not contain the byte, the first part is empty and the second is the
+/// whole text.
 pub fn cut_last(byte: u8, text: &[u8]) -> (&[u8], &[u8])
     ensures { (result.0.now ≡ before_last (is byte) text.now) × (result.1.now ≡ after_last (is byte) text.now) }
 {

@@ -5,7 +5,7 @@ ghost use Rattle.ods_text.specs.Numbers.{IsLargeNumber, IsNumber, IsSmallNumber}
 use crate::is_text;
 use std::str;
 
-/// The number below 2^64 that the digits spell, without leading zeros.
+/// Parses a decimal number below 2^64 without leading zeros. Returns `None` if the bytes are not such a number.
 pub fn read_large(digits: &[u8]) -> Option<u64>
     ensures { IsTheOne (IsLargeNumber digits.now) result }
 {
@@ -24,7 +24,7 @@ pub fn read_large(digits: &[u8]) -> Option<u64>
     }
 }
 
-/// The number below 2^32 that the digits spell, without leading zeros.
+/// Parses a decimal number below 2^32 without leading zeros. Returns `None` if the bytes are not such a number.
 pub fn read_decimal(digits: &[u8]) -> Option<u32>
     ensures { IsTheOne (IsNumber digits.now) result }
 {
@@ -37,7 +37,7 @@ pub fn read_decimal(digits: &[u8]) -> Option<u32>
     Some(number as u32)
 }
 
-/// The number below 2^16 that the digits spell, without leading zeros.
+/// Parses a decimal number below 2^16 without leading zeros. Returns `None` if the bytes are not such a number.
 pub fn read_small(digits: &[u8]) -> Option<u16>
     ensures { IsTheOne (IsSmallNumber digits.now) result }
 {

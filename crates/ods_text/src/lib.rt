@@ -1,4 +1,4 @@
-//! Texts: numbers in decimal and in octal, users, and texts that are cut in two.
+//! Texts: decimal and octal numbers, users, and splitting at a byte.
 #![tactic(auto)]
 
 mod cuts;

@@ -4,7 +4,7 @@ ghost use Rattle.std.specs.List.{All};
 ghost use Rattle.ods_text.specs.One.{IsTheOne};
 ghost use Rattle.ods_text.specs.Numbers.{IsOctal, octal_value as value_of_octal};
 
-/// The octal number that a text of one to three digits spells, at most 377.
+/// Parses an octal number of one to three digits, at most 377. Returns `None` if the text is not such a number.
 pub fn read_octal(text: &[u8]) -> Option<u8>
     ensures { IsTheOne (IsOctal text.now) result }
 {

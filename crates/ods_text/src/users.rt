@@ -5,7 +5,7 @@ ghost use Rattle.ods_text.specs.Users.{IsUser, IsUserInBrackets};
 
 use crate::{cut_at, read_octal};
 
-/// The group and the member that a text names, in octal, with a comma between them.
+/// Parses a user as `g,m`: group and member in octal, with a comma between them. Returns `None` if the text is not a valid user.
 pub fn read_user(text: &[u8]) -> Option<(u8, u8)>
     ensures { IsTheOne (IsUser text.now) result }
 {
@@ -15,7 +15,7 @@ pub fn read_user(text: &[u8]) -> Option<(u8, u8)>
     Some((group, member))
 }
 
-/// The group and the member that a text names between brackets, as `[1,2]`.
+/// Parses a user in brackets, such as `[1,2]`: group and member in octal. Returns `None` if the text is not such a user.
 pub fn read_user_in_brackets(text: &[u8]) -> Option<(u8, u8)>
     ensures { IsTheOne (IsUserInBrackets text.now) result }
 {

@@ -1,4 +1,4 @@
-//! What an archive of tar asks of a volume: its files, with the attributes, owners and protections that their records say. It knows no volume.
+//! The files of a tar archive for a volume, with the attributes, owners and protections of their records. The crate has no volume.
 #![tactic(auto)]
 
 mod asking;

@@ -1,4 +1,4 @@
--- What append asks for: bytes go behind the end of a file, and the attributes say where it ends then.
+-- The requests of append: bytes are written past the end of a file, and the attributes state the new end.
 use Rattle.std.specs.Prelude.{◌≡◌, ◌≢◌, ◌⊎◌, ◌≤◌, ◌<◌, ◌*◌, ◌+◌, ◌-◌, ◌/◌, ◌%◌, ◌==◌, ◌||◌, ◌↔◌, ◌^◌, ℕ, Bool, true, false, nat_le, if◌then◌else◌, List, [], ◌∷◌, ◌++◌, length, map, replicate, slice_index, slice_index_or, take, drop, Option, Some, None, IsTrue}
 use Rattle.std.specs.List.{All, flat_map, range_with_len}
 use Rattle.std.specs.Str.Lines.{lines}
@@ -40,7 +40,8 @@ use Rattle.ods_upkeep.specs.declared.put_fault.PutFault.TheVariants.{NoEnd, NoRe
 abbrev pub kind_number : List ℕ → ℕ
 kind_number attributes = slice_index attributes 0 % 16
 
--- this is known of the file, and bytes can go behind its end: it is no directory, its number is above 5, its attributes are not zeros, and F.RTYP is 0, 1 or 2
+-- this is known of the file, and bytes can be appended to it: it is no directory, its number is above 5, its attributes are not zeros, and F.RTYP is
+-- 0, 1 or 2
 pub record IsOpen (known : Option Facts) (facts : Facts) : Type 0 where
   pub is : known ≡ Some facts
   pub plain : facts.kind ≢ Directory
@@ -48,13 +49,13 @@ pub record IsOpen (known : Option Facts) (facts : Facts) : Type 0 where
   pub ended : are_zeros facts.attributes ≡ false
   pub kind : kind_number facts.attributes ≤ 2
 
--- the one file that the path names, the highest version where it says none, behind whose end bytes can go
+-- the one file that the path selects, the highest version if it specifies none, to which bytes can be appended
 pub record IsOpened (I : List (List ℕ)) (L : VolumeLayout) (path : List ℕ) (facts : Facts) : Type 0 where
   pub found : Found
   pub one : AreOfPath I L (highest alone.Refused) path (found ∷ [])
   pub may : IsOpen found.facts facts
 
--- why bytes cannot go behind a file's end: there is no file, it is a directory, it is one of the first five, nothing says where it ends, or F.RTYP is another
+-- why bytes cannot be appended to a file: there is no file, it is a directory, it is one of the first five, its end is unknown, or F.RTYP is another
 abbrev pub IsNotOpen : Option Facts → Why → Type 0
 IsNotOpen None why = why ≡ Path fault.NoSuchFile
 IsNotOpen (Some facts) why =
@@ -62,7 +63,7 @@ IsNotOpen (Some facts) why =
     ⊎ (((why ≡ Request Reserved) × (facts.file.number ≤ 5))
     ⊎ (((why ≡ Put NoEnd) × (are_zeros facts.attributes ≡ true)) ⊎ ((why ≡ Put (OtherKind (kind_number facts.attributes))) × (2 < kind_number facts.attributes))))
 
--- why what a path names is not opened: it names nothing, or more than one, or one behind whose end bytes cannot go
+-- why the file of a path is not opened: the path selects nothing, or more than one, or a file to which bytes cannot be appended
 abbrev pub IsNotOpened : List (List ℕ) → VolumeLayout → List ℕ → Why → Type 0
 IsNotOpened I L path why =
     IsNoSource I L (highest alone.Refused) path why
@@ -73,20 +74,21 @@ IsNotOpened I L path why =
 abbrev pub HasBytes : List (List ℕ) → VolumeLayout → ℕ → List ℕ → Type 0
 HasBytes I L n bytes = (body : Body) × HasBody I L n body × (bytes_in Binary body ≡ Some bytes)
 
--- why they are not read: the file or memory is wanting, or the end lies past the blocks
+-- why they are not read: the file does not exist, out of memory, or the end is past the blocks
 abbrev pub IsUnended : List (List ℕ) → VolumeLayout → ℕ → Why → Type 0
 IsUnended I L n why = IsUnread I L n why ⊎ ((why ≡ Put PastBlocks) × ((body : Body) × HasBody I L n body × (bytes_in Binary body ≡ None)))
 
--- The bytes spell some records. With so many zeros behind them more records can follow, and then they spell the old ones and these.
+-- The bytes spell some records. With this number of zeros after them more records can follow, and then they spell the old ones and these.
 abbrev pub IsPadded : List ℕ → ℕ → Type 0
 IsPadded old pad = (records : List (List ℕ)) × Spells Variable old records
     × ((more : List (List ℕ)) → All (λ r. length r ≤ 32767) more → Spells Variable (old ++ (replicate pad 0 ++ flat_map written more)) (records ++ more))
 
--- the attributes with the greater record size, F.RSIZ; where it is 0 it stays
+-- the attributes with the greater record size, F.RSIZ; if it is 0 it stays
 abbrev pub with_size : List ℕ → ℕ → List ℕ
 with_size own longest = if (word_at own 2 == 0) || nat_le longest (word_at own 2) then own else take 2 own ++ (word longest ++ drop 4 own)
 
--- Behind old bytes that are whole records come those that spell the lines of a text. The last of the old ones has its pad byte then, and where the rest of a block is not used, the new ones begin in the next.
+-- After old bytes that are whole records come the records of the lines of a text. The last of the old ones has its pad byte then, and if the rest of
+-- a block is not used, the new ones begin in the next.
 pub record IsTextBehind (own old text all attributes : List ℕ) : Type 0 where
   pub pad : ℕ
   pub padded : IsPadded old pad
@@ -97,50 +99,52 @@ pub record IsTextBehind (own old text all attributes : List ℕ) : Type 0 where
   pub small : length all < 512 * 2 ^ 20
   pub are : attributes ≡ with_end (with_size own longest) (length all)
 
--- behind old bytes come others as they are
+-- after old bytes come others, unchanged
 pub record AreBytesBehind (own old bytes all attributes : List ℕ) : Type 0 where
   pub behind : all ≡ old ++ bytes
   pub small : length all < 512 * 2 ^ 20
   pub are : attributes ≡ with_end own (length all)
 
--- These are all bytes of the file then, and its attributes: a text goes behind variable records, F.RTYP 2, and bytes as they are behind others.
+-- These are all bytes of the file then, and its attributes: a text follows variable records, F.RTYP 2, and unchanged bytes follow others.
 abbrev pub AreBehind : List ℕ → List ℕ → List ℕ → List ℕ → List ℕ → Type 0
 AreBehind own old bytes all attributes =
     ((kind_number own ≡ 2) × IsTextBehind own old bytes all attributes) ⊎ ((kind_number own ≢ 2) × AreBytesBehind own old bytes all attributes)
 
--- why a text is not put behind records: the old bytes are none, with their first fault; the text has no records; memory is wanting; or the file would be too large
+-- why a text is not appended to records: the old bytes are not valid records, with their first fault; the text has no records; out of memory; or the
+-- file would be too large
 abbrev pub IsNoTextBehind : List ℕ → List ℕ → Why → Type 0
 IsNoTextBehind old text why =
     ((fault : RecordFault) × (why ≡ Put (NoRecords fault)) × IsFirstFault Variable old fault)
     ⊎ (((fault : TextFault) × (why ≡ Text fault) × IsTextFault text fault) ⊎ ((why ≡ no_memory) ⊎ (why ≡ Request VolumeFull)))
 
--- why bytes are not put behind others: memory is wanting, or the file would be too large
+-- why bytes are not appended to others: out of memory, or the file would be too large
 abbrev pub AreNotBehind : List ℕ → List ℕ → List ℕ → Why → Type 0
 AreNotBehind own old bytes why =
     ((kind_number own ≡ 2) × IsNoTextBehind old bytes why)
     ⊎ ((kind_number own ≢ 2) × ((why ≡ no_memory) ⊎ ((why ≡ Request VolumeFull) × (512 * 2 ^ 20 ≤ length old + length bytes))))
 
--- so many blocks more, with requests of at most 65,535
+-- this number of blocks more, with requests of at most 65,535
 abbrev pub grows : FileId → ℕ → List Asked
 grows file more = replicate (more / 65535) (Extend file 65535) ++ (if more % 65535 == 0 then [] else Extend file (more % 65535) ∷ [])
 
--- so many blocks of these bytes are written, from block `first` on, counted from 0; zeros stand behind the last byte
+-- this number of blocks of these bytes are written, from block `first` on, counted from 0; zeros follow the last byte
 abbrev pub writes : FileId → List ℕ → ℕ → ℕ → List Asked
 writes file all first count = map (λ k. Write file (k + 1) (block_with all k)) (range_with_len first count)
 
--- The requests that make these all bytes of a file, of which so many stand: blocks that it lacks, each block from that of the old end on, and the attributes.
+-- The requests that make these all bytes of a file, which has this number of blocks: blocks that it lacks, each block from the block of the old end
+-- on, and the attributes.
 abbrev pub appends : Facts → ℕ → List ℕ → List ℕ → List Asked
 appends facts old all attributes =
     grows facts.file (block_count all - facts.blocks) ++ (writes facts.file all (old / 512) (block_count all - old / 512) ++ SetUser facts.file attributes ∷ [])
 
--- Behind the old bytes of the file are those of the host, as records where it has such. No bytes change nothing.
+-- After the old bytes of the file come the bytes of the host, as records if the file has variable records. No bytes change nothing.
 abbrev pub IsGrown : Facts → List ℕ → Filed → Filed → Type 0
 IsGrown facts bytes old new =
     ((bytes ≡ []) × (new ≡ old))
     ⊎ ((bytes ≢ []) × ((held : List ℕ) × ((all : List ℕ) × ((attributes : List ℕ) × HasBytes old.image old.layout facts.file.number held
     × AreBehind facts.attributes held bytes all attributes × Does old (appends facts (length held) all attributes) new))))
 
--- why they are not: the old bytes are not read, or the new ones do not go behind them, and nothing was done; or a request is not done
+-- why they do not: the old bytes are not read, or the new ones cannot be appended, and nothing was done; or a request is not done
 abbrev pub IsNotGrown : Facts → List ℕ → Filed → Filed → Why → Type 0
 IsNotGrown facts bytes old new why =
     ((new ≡ old) × IsUnended old.image old.layout facts.file.number why)
@@ -152,11 +156,11 @@ IsNotGrown facts bytes old new why =
 abbrev pub part_of : List ℕ → ℕ → List ℕ
 part_of bytes k = take 512 (drop (512 * k) bytes)
 
--- The blocks begin with these bytes: each block that they take is there, and begins with its part of them.
+-- The blocks begin with these bytes: each block that they take exists, and begins with its part of them.
 abbrev pub BeginWith : List (List ℕ) → List ℕ → Type 0
 BeginWith blocks bytes = (k : ℕ) → 512 * k < length bytes → (k < length blocks) × (take (length (part_of bytes k)) (slice_index_or blocks k []) ≡ part_of bytes k)
 
--- the catalogue has a plain file under this ID, of so many blocks, which begin with these bytes
+-- the catalogue has a plain file under this ID, with this number of blocks, which begin with these bytes
 pub record HoldsBytes (C : Catalogue) (id : FileId) (count : ℕ) (bytes : List ℕ) : Type 0 where
   pub file : File
   pub there : finmap.get C.files id ≡ Some file
@@ -166,7 +170,8 @@ pub record HoldsBytes (C : Catalogue) (id : FileId) (count : ℕ) (bytes : List 
   pub counted : length blocks ≡ count
   pub begin : BeginWith blocks bytes
 
--- What is left of a catalogue: the file has these attributes, and its blocks begin with these bytes. Its owner, its protection and its ident are the old ones, and every other file is as it was.
+-- The rest of a catalogue: the file has these attributes, and its blocks begin with these bytes. Its owner, its protection and its ident are the old
+-- ones, and every other file is unchanged.
 pub record IsLeftOf (C : Catalogue) (id : FileId) (attributes bytes : List ℕ) (D : Catalogue) : Type 0 where
   pub before : File
   pub was : finmap.get C.files id ≡ Some before

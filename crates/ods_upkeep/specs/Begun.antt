@@ -1,4 +1,4 @@
--- What put looks up before the first file.
+-- The lookups of put before the first file.
 use Rattle.std.specs.Prelude.{◌≡◌, ◌≢◌, ◌<◌, ℕ, nat_le, Bool, true, false, not, ◌&&◌, if◌then◌else◌, List, [], ◌∷◌, codes, slice_index, Option, Some, None}
 use Rattle.std.specs.Borrow.{Bor}
 use Rattle.std.specs.Option.{option_map}
@@ -19,7 +19,7 @@ use Rattle.ods_upkeep.specs.declared.asked.Placing.{Placing}
 use Rattle.ods_upkeep.specs.declared.asked.Placing.TheVariants.{Anywhere, InOnePiece}
 use Rattle.ods_upkeep.specs.declared.asked.PutForm.{PutForm}
 
--- the path of the target: the one that is said, or that of the master directory
+-- the path of the target: the given one, or the path of the master directory
 abbrev pub path_to : Option (Bor (List ℕ)) → List ℕ
 path_to None = codes "[0,0]"
 path_to (Some said) = said.now
@@ -28,7 +28,7 @@ path_to (Some said) = said.now
 abbrev pub count_of : Bool → ℕ
 count_of several = if several then 2 else 1
 
--- This is known of the one file that the path names, the highest version where it says none. It is no directory, and its number is above 2.
+-- This is known of the one file that the path selects, the highest version if it specifies none. It is no directory, and its number is above 2.
 pub record IsLikeable (I : List (List ℕ)) (L : VolumeLayout) (path : List ℕ) (facts : Facts) : Type 0 where
   pub found : Found
   pub one : AreOfPath I L (highest alone.Refused) path (found ∷ [])
@@ -36,7 +36,7 @@ pub record IsLikeable (I : List (List ℕ)) (L : VolumeLayout) (path : List ℕ)
   pub plain : facts.kind ≢ Directory
   pub above : 2 < facts.file.number
 
--- what is known of the file that the new ones are to be like, where one is said
+-- the facts of the model file of the new files, if one is given
 abbrev pub IsLike : List (List ℕ) → VolumeLayout → Option (Bor (List ℕ)) → Option Facts → Type 0
 IsLike I L None like = like ≡ None
 IsLike I L (Some path) like = (facts : Facts) × (like ≡ Some facts) × IsLikeable I L path.now facts
@@ -45,23 +45,23 @@ IsLike I L (Some path) like = (facts : Facts) × (like ≡ Some facts) × IsLike
 abbrev pub is_contiguous : Facts → Bool
 is_contiguous facts = nat_le 128 facts.user_char
 
--- Where the blocks of the new files stand: as it is said; else in one piece where the file that they are to be like is contiguous.
+-- Where the blocks of the new files are allocated: as specified; otherwise in one piece if the model file is contiguous.
 abbrev pub placing_by : Option Placing → Option Facts → Placing
 placing_by (Some said) like = said
 placing_by None None = Anywhere
 placing_by None (Some facts) = if is_contiguous facts then InOnePiece else Anywhere
 
--- where files are replaced, how often entries name each file
+-- if files are replaced, how often entries name each file
 abbrev pub AreNames : List (List ℕ) → VolumeLayout → Bool → Option (List ℕ) → Type 0
 AreNames I L false names = names ≡ None
 AreNames I L true names = (counts : List ℕ) × (names ≡ Some counts) × AreCounts I L (slice_index counts)
 
--- the highest versions of the names in a directory, where they are wanted
+-- the highest versions of the names in a directory, if they are needed
 abbrev pub AreKept : List (List ℕ) → VolumeLayout → Bool → FileId → Option Noted → Type 0
 AreKept I L false dir kept = kept ≡ None
 AreKept I L true dir kept = (noted : Noted) × (kept ≡ Some noted) × AreHighest I L dir.number noted
 
--- What put looks up on a volume: the target, the file that the new ones are to be like, and counts of names or highest versions. All else is as it is asked for.
+-- The lookups of put on a volume: the target, the model file, and counts of names or highest versions. Everything else is as requested.
 pub record IsBegun (I : List (List ℕ)) (L : VolumeLayout) (stamp : List ℕ) (to : Option (Bor (List ℕ))) (several : Bool) (form : PutForm) (like : Option (Bor (List ℕ))) (placing : Option Placing) (replace : Bool) (owner : Option Uic) (begun : InPut) : Type 0 where
   pub target : IsTarget I L (count_of several) (path_to to) begun.target
   pub stamped : begun.stamp ≡ stamp

@@ -1,4 +1,4 @@
--- What cp asks for: of each file that is found a new one is made, with the bytes of all its blocks and with its attributes.
+-- The requests of cp: for each file that is found a new one is created, with the bytes of all its blocks and with its attributes.
 use Rattle.std.specs.Prelude.{◌≡◌, ◌≢◌, ◌⊎◌, ◌≤◌, ◌<◌, ◌*◌, ℕ, nat_lt, true, false, if◌then◌else◌, List, [], ◌∷◌, ◌++◌, length, take, drop, Option, Some, None}
 use Rattle.std.specs.Borrow.{Bor}
 use Rattle.ods_base.specs.Name.{RadName, Spells, directory_type}
@@ -35,7 +35,7 @@ use Rattle.ods_upkeep.specs.declared.failure.Why.{Why}
 use Rattle.ods_upkeep.specs.declared.failure.Why.TheVariants.{Path, Request, BadName, IsDirectory, DirectoryType}
 use Rattle.ods_upkeep.specs.declared.target.Target.{Target}
 
--- the name of a copy: the one that is said; else the entry's; else the one before the `;` of the name in the header
+-- the name of a copy: the given one; otherwise the name of the entry; otherwise the part before the `;` of the name in the header
 abbrev pub IsNameOf : Option RadName → Option EntryPlace → Facts → RadName → Type 0
 IsNameOf (Some said) place facts name = name ≡ said
 IsNameOf None (Some p) facts name = name ≡ p.entry.name
@@ -44,7 +44,7 @@ IsNameOf None None facts name = Spells (before_version (ident_text facts.ident))
 abbrev pub NamesCopy : Target → Found → Facts → RadName → Type 0
 NamesCopy to found facts name = IsNameOf to.name found.place facts name
 
--- The file is there, no directory, and above 2; the user may read it; and its copy gets this name, which is of another type than DIR.
+-- The file exists, is no directory, and is above 2; the user may read it; and its copy gets this name, which has another type than DIR.
 pub record IsCopyable (user : Uic) (to : Target) (found : Found) (facts : Facts) (name : RadName) : Type 0 where
   pub known : found.facts ≡ Some facts
   pub above : 2 < facts.file.number
@@ -53,7 +53,7 @@ pub record IsCopyable (user : Uic) (to : Target) (found : Found) (facts : Facts)
   pub named : NamesCopy to found facts name
   pub other : name.ext ≢ directory_type
 
--- why a file is not copied, as far as it can be seen before
+-- why a file is not copied, as far as it can be determined before
 pub data IsUncopyable (user : Uic) (to : Target) (found : Found) : Why → Type 0 where
   not_there : found.facts ≡ None → IsUncopyable user to found (Path fault.NoSuchFile)
   reserved : (facts : Facts) → found.facts ≡ Some facts → facts.file.number ≤ 2 → IsUncopyable user to found (Request refusal.Reserved)
@@ -62,25 +62,27 @@ pub data IsUncopyable (user : Uic) (to : Target) (found : Found) : Why → Type 
   nameless : (facts : Facts) → found.facts ≡ Some facts → ((name : RadName) → ¬ NamesCopy to found facts name) → IsUncopyable user to found BadName
   of_directory : (facts : Facts) (name : RadName) → found.facts ≡ Some facts → NamesCopy to found facts name → name.ext ≡ directory_type → IsUncopyable user to found DirectoryType
 
--- why the bytes of file n are not read: memory is refused, or the blocks show no such file with a whole chain
+-- why the bytes of file n are not read: out of memory, or the blocks show no such file with a whole chain
 abbrev pub IsUnread : List (List ℕ) → VolumeLayout → ℕ → Why → Type 0
 IsUnread I L n why = (why ≡ Request refusal.NoMemory) ⊎ ((why ≡ Path fault.NoSuchFile) × ((body : Body) → ¬ HasBody I L n body))
 
--- how that is said: of a file that is not there, or that has no whole chain, as of none
+-- the refusal for this: a file without a whole chain is reported like a file that does not exist
 abbrev pub why_unread : FileFault → Why
 why_unread NoSuchFile = Path fault.NoSuchFile
 why_unread (Chain BadChain) = Path fault.NoSuchFile
 why_unread (Chain (OutsideVolume lbn)) = Path fault.NoSuchFile
 why_unread (Chain NoMemory) = Request refusal.NoMemory
 
--- The attributes of a copy of so many blocks: zeros, by which all blocks count, stay; an end of file behind the blocks is theirs; else only F.HIBK, bytes 4 to 7, is set to their count.
+-- The attributes of a copy with this number of blocks: zeros, with which all blocks count, stay; an end of file past the blocks becomes their end;
+-- otherwise only F.HIBK, bytes 4 to 7, is set to their count.
 abbrev pub true_for : List ℕ → ℕ → List ℕ
 true_for own blocks =
     if are_zeros own then own
     else if nat_lt (512 * blocks) (end_of own) then with_end own (512 * blocks)
     else take 4 own ++ block blocks ++ drop 8 own
 
--- A copy with these bytes is made of a file of which this is known: the user makes it, its blocks placed so, and enters it under this name, under the version that is said or the next one.
+-- A copy with these bytes is made of a file of which this is known: the user makes it, with its blocks placed this way, and enters it under this
+-- name, under the given version or the next one.
 pub record IsCopyMade (placing : Placing) (to : Target) (name : RadName) (stamp : List ℕ) (facts : Facts) (bytes : List ℕ) (old new : Filed) : Type 0 where
   -- the version that the header of the copy gets, and the volume when it is looked up
   pub version : ℕ
@@ -89,7 +91,7 @@ pub record IsCopyMade (placing : Placing) (to : Target) (name : RadName) (stamp 
   pub file : FileId
   pub made : IsMadeFor placing old.user to.directory to.version (record { name = name; version = version; stamp = stamp }) (true_for facts.attributes facts.blocks) bytes file mid new
 
--- A file is copied. What is known of it is as it was found at first; its bytes are those that all its blocks have when its turn comes.
+-- A file is copied. Its facts are as they were found at first; its bytes are the bytes of all its blocks when its turn comes.
 pub record IsCopied (placing : Placing) (to : Target) (stamp : List ℕ) (found : Found) (old new : Filed) : Type 0 where
   pub facts : Facts
   pub name : RadName
@@ -100,12 +102,12 @@ pub record IsCopied (placing : Placing) (to : Target) (stamp : List ℕ) (found 
   pub all : bytes_in Raw body ≡ Some bytes
   pub made : IsCopyMade placing to name stamp facts bytes old new
 
--- these files are copied, one after another
+-- these files are copied, in order
 abbrev pub AreCopied : Placing → Target → List ℕ → List Found → Filed → Filed → Type 0
 AreCopied placing to stamp [] old new = new ≡ old
 AreCopied placing to stamp (f ∷ found) old new = (mid : Filed) × IsCopied placing to stamp f old mid × AreCopied placing to stamp found mid new
 
--- Each file that these paths mean, the highest version where they say none, is copied to the target of the last path. Nothing else was done.
+-- Each file that these paths select, the highest version if they specify none, is copied to the target of the last path. Nothing else was done.
 abbrev pub IsCopiedTo : Placing → List ℕ → List (Bor (List ℕ)) → List ℕ → Filed → Filed → Type 0
 IsCopiedTo placing stamp paths to old new =
     (found : List Found) × ((target : Target) × AreSources old.image old.layout (highest alone.Files) paths found × IsTarget old.image old.layout (length found) to target

@@ -1,4 +1,5 @@
--- What cp asks for where the files are another volume's: of each file that is found there a new one is made here, with the bytes of all its blocks, its attributes, its date of creation, its name and its version.
+-- The requests of cp for files of another volume: for each file that is found there a new one is created here, with the bytes of all its blocks, its
+-- attributes, its date of creation, its name and its version.
 use Rattle.std.specs.Prelude.{◌≡◌, ℕ, Bool, true, not, List, [], ◌∷◌, length, Option, Some, None, if◌then◌else◌}
 use Rattle.std.specs.Borrow.{Bor}
 use Rattle.std.specs.List.{All, filter, list_all}
@@ -30,7 +31,7 @@ use Rattle.ods_upkeep.specs.declared.asked.CopyFrom.{CopyFrom}
 use Rattle.ods_upkeep.specs.declared.asked.Placing.{Placing}
 use Rattle.ods_upkeep.specs.declared.target.Target.{Target}
 
--- those of these that are copied: no directories, and none of the other volume's own files, 1 to 5
+-- the copied ones of these: no directories, and none of the other volume's own files, 1 to 5
 abbrev pub copied_of : List Found → List Found
 copied_of all = filter (λ f. not (is_passed_over f.facts)) all
 
@@ -38,37 +39,38 @@ copied_of all = filter (λ f. not (is_passed_over f.facts)) all
 abbrev pub are_passed_over : List Found → Bool
 are_passed_over all = list_all (λ f. is_passed_over f.facts) all
 
--- what this path finds on the other volume are no two entries of one directory with one name and version
+-- this path does not find two entries of one directory with one name and version on the other volume
 abbrev pub FindsNoTwins : List (List ℕ) → VolumeLayout → List ℕ → Type 0
 FindsNoTwins I L path = (found : List Found) × AreOfPath I L (highest alone.Files) path found × ¬ HaveTwins found
 
--- The files that these paths find on the other volume, each name once, the highest version where they say none. No path finds two entries of one name, and where anything is found, not all of it is passed over.
+-- The files that these paths find on the other volume, each name once, the highest version if they specify none. No path finds two entries of one
+-- name, and if anything is found, not all of it is passed over.
 abbrev pub AreFilesFrom : List (List ℕ) → VolumeLayout → List (Bor (List ℕ)) → List Found → Type 0
 AreFilesFrom I L paths files =
     (all : List Found) × AreSources I L (highest alone.Files) paths all × All (λ path. FindsNoTwins I L path.now) paths × (are_passed_over all ≡ true → all ≡ []) × (files ≡ copied_of all)
 
--- the version that a file has: the entry's, or without one that in the header
+-- the version of a file: the version of its entry, or without one the version in its header
 abbrev pub own_version : Option EntryPlace → Facts → ℕ
 own_version (Some place) facts = place.entry.version
 own_version None facts = word facts.ident 4
 
--- the version under which a copy is entered: the one that is said; else the file's own, or the next one where that is asked for
+-- the version under which a copy is entered: the given one; otherwise the file's own, or the next one if it is requested
 abbrev pub version_for : Target → Found → Facts → Bool → Option ℕ
 version_for to found facts next = if next then to.version else option_or to.version (Some (own_version found.place facts))
 
--- where a copy goes
+-- the target of a copy
 abbrev pub target_for : Target → Found → Facts → Bool → Target
 target_for to found facts next = record { directory = to.directory; name = to.name; version = version_for to found facts next }
 
--- the date of creation in a header, where it is one; else this stamp
+-- the date of creation in a header, if it is valid; otherwise this stamp
 abbrev pub stamp_for : Facts → List ℕ → List ℕ
 stamp_for facts stamp = if is_stamp (created_in facts.ident) then created_in facts.ident else stamp
 
--- where the blocks of a copy stand: as it is said; else in one piece where the file is contiguous
+-- where the blocks of a copy are allocated: as specified; otherwise in one piece if the file is contiguous
 abbrev pub placing_of : CopyFrom → Facts → Placing
 placing_of how facts = placing_by how.placing (Some facts)
 
--- A file of the other volume is copied. That volume has these blocks and this layout, by which the file has a whole chain.
+-- A file of the other volume is copied. That volume has these blocks and this layout, with which the file has a whole chain.
 pub record IsCopiedOver (I : List (List ℕ)) (L : VolumeLayout) (how : CopyFrom) (to : Target) (stamp : List ℕ) (found : Found) (old new : Filed) : Type 0 where
   pub facts : Facts
   pub name : RadName
@@ -79,12 +81,12 @@ pub record IsCopiedOver (I : List (List ℕ)) (L : VolumeLayout) (how : CopyFrom
   pub all : bytes_in Raw body ≡ Some bytes
   pub made : IsCopyMade (placing_of how facts) (target_for to found facts how.next) name (stamp_for facts stamp) facts bytes old new
 
--- these files are copied, one after another
+-- these files are copied, in order
 abbrev pub AreCopiedOver : List (List ℕ) → VolumeLayout → CopyFrom → Target → List ℕ → List Found → Filed → Filed → Type 0
 AreCopiedOver I L how to stamp [] old new = new ≡ old
 AreCopiedOver I L how to stamp (f ∷ found) old new = (mid : Filed) × IsCopiedOver I L how to stamp f old mid × AreCopiedOver I L how to stamp found mid new
 
--- These files are copied. Nothing else was done, but that INDEXF.SYS may have grown for them.
+-- These files are copied. Nothing else was done, except that INDEXF.SYS may have grown for them.
 abbrev pub AreAllCopiedOver : List (List ℕ) → VolumeLayout → CopyFrom → Target → List ℕ → List Found → Filed → Filed → Type 0
 AreAllCopiedOver I L how to stamp files old new = (ready : Filed) × MayHaveGrown (length files) old ready × AreCopiedOver I L how to stamp files ready new
 
@@ -98,6 +100,6 @@ IsCopiedFrom I L how stamp paths to old new =
 abbrev pub IsLedFrom : Filed → Filed → Type 0
 IsLedFrom old new = (count : ℕ) × ((ready : Filed) × MayHaveGrown count old ready × IsLed Copies ready new)
 
--- The same of the files of some volume: which one, only the host knows that has its image.
+-- The same of the files of some volume: only the host, which has its image, knows which one.
 abbrev pub IsCopiedFromSome : CopyFrom → List ℕ → List (Bor (List ℕ)) → List ℕ → Filed → Filed → Type 0
 IsCopiedFromSome how stamp paths to old new = (I : List (List ℕ)) × ((L : VolumeLayout) × FindsFiles I L × IsCopiedFrom I L how stamp paths to old new)

@@ -1,4 +1,5 @@
--- What cp -r asks for where the files are another volume's: the files in a directory there and below it are copied, each into the directory of this volume to which the same names lead from the target. Directories that are not there are made.
+-- The requests of cp -r for files of another volume: the files in a directory there and below it are copied, each into the directory of this volume
+-- that the same names reach from the target. Directories that do not exist are created.
 use Rattle.std.specs.Prelude.{◌≡◌, ◌⊎◌, ℕ, true, List, [], ◌∷◌, drop, Some, None, if◌then◌else◌, vec_len}
 use Rattle.ods_base.specs.Name.{RadName}
 use Rattle.ods_base.specs.declared.file_id.FileId.{FileId}
@@ -26,7 +27,7 @@ use Rattle.ods_upkeep.specs.Target.{IsTarget}
 use Rattle.ods_upkeep.specs.declared.asked.CopyFrom.{CopyFrom}
 use Rattle.ods_upkeep.specs.declared.target.Target.{Target}
 
--- what a path says that says directories alone: these, with all below them
+-- the selection of a path with directories only: these, with all below them
 abbrev pub IsTreeSaid : List (List ℕ) → VolumeLayout → Said → List Directory → Type 0
 IsTreeSaid I L (File file) tree = ⊥
 IsTreeSaid I L (Within folder None) tree = AreMeant I L [] (record folder { below = true }) tree
@@ -36,12 +37,12 @@ IsTreeSaid I L (Within folder (Some files)) tree = ⊥
 abbrev pub IsTree : List (List ℕ) → VolumeLayout → List ℕ → List Directory → Type 0
 IsTree I L path tree = (says : Said) × Says path says × IsTreeSaid I L says tree
 
--- how many names lead to the first of these
+-- how many names reach the first of these
 abbrev pub depth_of : List Directory → ℕ
 depth_of [] = 0
 depth_of (first ∷ rest) = vec_len first.names
 
--- what these entries of a directory name, in their order, but for what is passed over
+-- the files of these entries of a directory, in their order, except files that are passed over
 abbrev pub AreFilesAt : List (List ℕ) → VolumeLayout → Directory → List Listed → List Found → Type 0
 AreFilesAt I L directory [] files = files ≡ []
 AreFilesAt I L directory (e ∷ entries) files =
@@ -51,33 +52,33 @@ AreFilesAt I L directory (e ∷ entries) files =
 abbrev pub AreFilesIn : List (List ℕ) → VolumeLayout → Directory → List Found → Type 0
 AreFilesIn I L directory files = (entries : List Listed) × AreLinesOf I L directory.number entries × AreFilesAt I L directory entries files
 
--- A directory of this name was made in this one, as mkdir makes it: its owner asked for the new file, and then the user entered it under version 1.
+-- A directory of this name was made in this one, as mkdir makes it: its owner requested the new file, and then the user entered it under version 1.
 abbrev pub IsMadeIn : List ℕ → FileId → RadName → Filed → FileId → Filed → Type 0
 IsMadeIn stamp dir name old file new = (owner : Uic) × (IsOwner None old.user dir name owner
     × ((mid : Filed) × IsDone (for_another old owner) (Create name 1 (blocks_for 0) stamp) (Created file) mid × IsObeyed (for_another mid old.user) (Enter dir name (Some 1) file) new))
 
--- The directory of this name in this one: the user finds it under its highest version, and it hides no entries; or he finds none, and it was made.
+-- The directory of this name in this one: the user finds it under its highest version, and it hides no entries; or it is not found, and was made.
 abbrev pub IsDirectoryBelow : List ℕ → FileId → RadName → Filed → FileId → Filed → Type 0
 IsDirectoryBelow stamp dir name old file new =
     ((version : ℕ) × IsSeen old dir name Highest file version new × ¬ HidesEntries new.image new.layout file.number)
     ⊎ ((seen : Filed) × IsUnseen old dir name Highest seen × IsMadeIn stamp dir name seen file new)
 
--- the directory to which these names lead from this one
+-- the directory that these names reach from this one
 abbrev pub IsPlaceBelow : List ℕ → FileId → List RadName → Filed → FileId → Filed → Type 0
 IsPlaceBelow stamp dir [] old place new = (place ≡ dir) × (new ≡ old)
 IsPlaceBelow stamp dir (name ∷ names) old place new = (next : FileId) × ((mid : Filed) × IsDirectoryBelow stamp dir name old next mid × IsPlaceBelow stamp next names mid place new)
 
--- a directory, where each file keeps its name
+-- a directory, in which each file keeps its name
 abbrev pub target_at : FileId → Target
 target_at directory = record { directory = directory; name = None; version = None }
 
--- The files of a directory of the other volume are copied into the directory to which its names behind so many lead from this one.
+-- The files of a directory of the other volume are copied into the directory that its names, after this number of them, reach from this one.
 abbrev pub IsDirectoryCopied : List (List ℕ) → VolumeLayout → CopyFrom → List ℕ → FileId → ℕ → Directory → Filed → Filed → Type 0
 IsDirectoryCopied I L how stamp dir depth directory old new =
     (place : FileId) × ((mid : Filed) × ((files : List Found) × IsPlaceBelow stamp dir (drop depth directory.names.items) old place mid
     × AreFilesIn I L directory files × AreAllCopiedOver I L how (target_at place) stamp files mid new))
 
--- these directories are copied, one after another
+-- these directories are copied, in order
 abbrev pub AreDirectoriesCopied : List (List ℕ) → VolumeLayout → CopyFrom → List ℕ → FileId → ℕ → List Directory → Filed → Filed → Type 0
 AreDirectoriesCopied I L how stamp dir depth [] old new = new ≡ old
 AreDirectoriesCopied I L how stamp dir depth (d ∷ directories) old new =
@@ -89,6 +90,6 @@ IsTreeCopied I L how stamp path to old new =
     (tree : List Directory) × ((target : Target) × IsTree I L path tree × IsTarget old.image old.layout 2 to target
     × AreDirectoriesCopied I L how stamp target.directory (depth_of tree) tree old new)
 
--- The same of some volume: which one, only the host knows that has its image.
+-- The same of some volume: only the host, which has its image, knows which one.
 abbrev pub IsTreeCopiedFromSome : CopyFrom → List ℕ → List ℕ → List ℕ → Filed → Filed → Type 0
 IsTreeCopiedFromSome how stamp path to old new = (I : List (List ℕ)) × ((L : VolumeLayout) × FindsFiles I L × IsTreeCopied I L how stamp path to old new)

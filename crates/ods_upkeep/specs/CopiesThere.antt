@@ -1,4 +1,5 @@
--- What cp --from leaves: each file that was copied is there afterwards as the other volume has it. What is copied later changes nothing of it. Laws over the definitions alone.
+-- The result of cp --from: each file that was copied exists afterwards as it is on the other volume. A later copy changes nothing of it. Laws over
+-- definitions only.
 use Rattle.std.specs.Prelude.{◌≡◌, ◌⊎◌, ◌≤◌, ◌*◌, ℕ, true, false, List, [], ◌∷◌, length, drop, slice_range, Some, IfSome, Option}
 use Rattle.std.specs.Borrow.{Bor}
 use Rattle.std.specs.List.{All}
@@ -26,16 +27,17 @@ use Rattle.ods_upkeep.specs.Target.{IsTarget}
 use Rattle.ods_upkeep.specs.declared.asked.CopyFrom.{CopyFrom}
 use Rattle.ods_upkeep.specs.declared.target.Target.{Target}
 
--- What one catalogue has another one has too: each file that is no directory, as it is, and each entry of a directory.
+-- The second catalogue has everything that the first has: each file that is no directory, unchanged, and each entry of a directory.
 pub record HasAllOf (C D : Catalogue) : Type 0 where
   pub files : (id : FileId) (file : File) → finmap.get C.files id ≡ Some file → is_directory file.body ≡ false → finmap.get D.files id ≡ Some file
   pub entries : (dir : FileId) (name : RadName) (version : ℕ) (file : FileId) → IsEntryOf C dir name version file → IsEntryOf D dir name version file
 
--- The new blocks show a catalogue too, and each that they show has all of each that the old blocks show.
+-- The new blocks show a catalogue too, and each catalogue that they show has everything of each catalogue that the old blocks show.
 abbrev pub LeavesAll : Filed → Filed → Type 0
 LeavesAll old new = (C : Catalogue) → ShowsBy old.image old.layout C → ((D : Catalogue) × ShowsBy new.image new.layout D) × ((D : Catalogue) → ShowsBy new.image new.layout D → HasAllOf C D)
 
--- File n of one volume and file m of another have the same bytes, as `cmp` compares them: those up to the end of file, or of all blocks where that lies past them.
+-- File n of one volume and file m of another have the same bytes, as `cmp` compares them: the bytes up to the end of file, or of all blocks if it is
+-- past them.
 pub record HaveSameBytes (I : List (List ℕ)) (L : VolumeLayout) (n : ℕ) (J : List (List ℕ)) (M : VolumeLayout) (m : ℕ) : Type 0 where
   pub bytes : List ℕ
   pub here : HasCompared I L n bytes
@@ -48,11 +50,12 @@ pub record AreAlike (I : List (List ℕ)) (L : VolumeLayout) (n : ℕ) (J : List
   pub attributes : (facts others : Facts) → AreFacts I L n facts → AreFacts J M m others → facts.attributes ≡ others.attributes
   pub bytes : HaveSameBytes I L n J M m
 
--- The attributes are true of so many blocks: nothing was ever written into them; or the end of file lies within the blocks, and F.HIBK is their count.
+-- The attributes are true for this number of blocks: they were never written; or the end of file is within the blocks, and F.HIBK is their count.
 abbrev pub AreTrueOf : List ℕ → ℕ → Type 0
 AreTrueOf own blocks = (are_zeros own ≡ true) ⊎ ((end_of own ≤ 512 * blocks) × (slice_range own 4 8 ≡ block blocks))
 
--- The catalogue has a file under this ID, with these attributes and blocks, and with this name and this stamp in its ident. An entry of the directory names it, under the version that is said.
+-- The catalogue has a file under this ID, with these attributes and blocks, and with this name and this stamp in its ident. An entry of the directory
+-- names it, under the given version.
 pub record IsCopyIn (D : Catalogue) (dir : FileId) (name : RadName) (said : Option ℕ) (stamp attributes : List ℕ) (blocks : List (List ℕ)) (id : FileId) : Type 0 where
   pub file : File
   pub there : finmap.get D.files id ≡ Some file
@@ -63,7 +66,7 @@ pub record IsCopyIn (D : Catalogue) (dir : FileId) (name : RadName) (said : Opti
   pub entry : IsEntryOf D dir name version id
   pub as_said : IfSome said (λ v. version ≡ v)
 
--- A file of the other volume has a copy here. That volume has these blocks and this layout, by which the file has a whole chain.
+-- A file of the other volume has a copy here. That volume has these blocks and this layout, with which the file has a whole chain.
 pub record HasCopy (I : List (List ℕ)) (L : VolumeLayout) (how : CopyFrom) (to : Target) (stamp : List ℕ) (found : Found) (new : Filed) : Type 0 where
   pub facts : Facts
   pub known : found.facts ≡ Some facts
@@ -73,44 +76,48 @@ pub record HasCopy (I : List (List ℕ)) (L : VolumeLayout) (how : CopyFrom) (to
   pub name : RadName
   pub named : NamesCopy to found facts name
   pub id : FileId
-  -- each catalogue that the blocks show has it in the directory of the target: with all blocks of the file there, its attributes, and its date
+  -- each catalogue that the blocks show has it in the directory of the target: with all blocks of the other volume's file, its attributes, and its
+  -- date
   pub there : (D : Catalogue) → ShowsBy new.image new.layout D
       → IsCopyIn D to.directory name (version_for to found facts how.next) (stamp_for facts stamp) (true_for facts.attributes facts.blocks) body.blocks id
-  -- `cmp` finds the same bytes, and no difference where the attributes of the file there are true of its blocks
+  -- `cmp` finds the same bytes, and no difference if the attributes of the other volume's file are true for its blocks
   pub same : HaveSameBytes I L facts.file.number new.image new.layout id.number
   pub alike : AreTrueOf facts.attributes facts.blocks → AreAlike I L facts.file.number new.image new.layout id.number
 
--- what is known of what was found is so by these blocks and this layout
+-- what is known of what was found holds for these blocks and this layout
 abbrev pub IsKnownBy : List (List ℕ) → VolumeLayout → Found → Type 0
 IsKnownBy I L found = (facts : Facts) → found.facts ≡ Some facts → AreFacts I L facts.file.number facts
 
--- A file of another volume that is copied has a copy here, and all that was here is left. The blocks before show some catalogue, as those of each sound volume do.
+-- A file of another volume that is copied has a copy here, and everything that was here is left. The blocks before show some catalogue, like the
+-- blocks of each sound volume.
 abbrev pub CopyIsThere : Type 0
 CopyIsThere = (I : List (List ℕ)) (L : VolumeLayout) (how : CopyFrom) (to : Target) (stamp : List ℕ) (found : Found) (old new : Filed) (C : Catalogue) → IsImage I → IsKnownBy I L found
     → ShowsBy old.image old.layout C → IsCopiedOver I L how to stamp found old new → HasCopy I L how to stamp found new × LeavesAll old new
 
--- Where files of another volume are copied one after another, each of them has a copy here at the end.
+-- If files of another volume are copied in order, each of them has a copy here at the end.
 abbrev pub CopiesAreThere : Type 0
 CopiesAreThere = (I : List (List ℕ)) (L : VolumeLayout) (how : CopyFrom) (to : Target) (stamp : List ℕ) (files : List Found) (old new : Filed) (C : Catalogue) → IsImage I → All (IsKnownBy I L) files
     → ShowsBy old.image old.layout C → AreAllCopiedOver I L how to stamp files old new → All (λ found. HasCopy I L how to stamp found new) files × LeavesAll old new
 
--- What is there after cp --from: the files that the paths find on the other volume have copies in the target of the last path. All that was here is left.
+-- The result of cp --from: the files that the paths find on the other volume have copies in the target of the last path. Everything that was here is
+-- left.
 abbrev pub IsLeftFrom : List (List ℕ) → VolumeLayout → CopyFrom → List ℕ → List (Bor (List ℕ)) → List ℕ → Filed → Filed → Type 0
 IsLeftFrom I L how stamp paths to old new =
     (files : List Found) × ((target : Target) × AreFilesFrom I L paths files × IsTarget old.image old.layout (length files) to target
     × All (λ found. HasCopy I L how target stamp found new) files × LeavesAll old new)
 
--- After cp --from each file that its paths find on the other volume has a copy here. So `cmp` finds no difference in any of them whose attributes are true of its blocks.
+-- After cp --from each file that its paths find on the other volume has a copy here. So `cmp` finds no difference in any of them whose attributes are
+-- true for its blocks.
 abbrev pub CopiedIsThere : Type 0
 CopiedIsThere = (I : List (List ℕ)) (L : VolumeLayout) (how : CopyFrom) (stamp : List ℕ) (paths : List (Bor (List ℕ))) (to : List ℕ) (old new : Filed) (C : Catalogue) → IsImage I
     → ShowsBy old.image old.layout C → IsCopiedFrom I L how stamp paths to old new → IsLeftFrom I L how stamp paths to old new
 
--- In this catalogue the names lead from one directory to another, each by an entry.
+-- In this catalogue the names reach one directory from another, each by an entry.
 abbrev pub IsWayIn : Catalogue → FileId → List RadName → FileId → Type 0
 IsWayIn D dir [] place = place ≡ dir
 IsWayIn D dir (name ∷ names) place = (next : FileId) × ((version : ℕ) × IsEntryOf D dir name version next × IsWayIn D next names place)
 
--- The files of a directory of the other volume have copies here: in the directory to which its names, behind so many, lead from this one.
+-- The files of a directory of the other volume have copies here: in the directory that its names, after this number of them, reach from this one.
 pub record HasDirectory (I : List (List ℕ)) (L : VolumeLayout) (how : CopyFrom) (stamp : List ℕ) (dir : FileId) (depth : ℕ) (directory : Directory) (new : Filed) : Type 0 where
   pub place : FileId
   pub way : (D : Catalogue) → ShowsBy new.image new.layout D → IsWayIn D dir (drop depth directory.names.items) place
@@ -118,7 +125,8 @@ pub record HasDirectory (I : List (List ℕ)) (L : VolumeLayout) (how : CopyFrom
   pub are : AreFilesIn I L directory files
   pub copies : All (λ found. HasCopy I L how (target_at place) stamp found new) files
 
--- What is there after cp --from -r: the files in the directories of the path, and below them, have copies in the target and below it. All that was here is left.
+-- The result of cp --from -r: the files in the directories of the path, and below them, have copies in the target and below it. Everything that was
+-- here is left.
 abbrev pub IsTreeLeftFrom : List (List ℕ) → VolumeLayout → CopyFrom → List ℕ → List ℕ → List ℕ → Filed → Filed → Type 0
 IsTreeLeftFrom I L how stamp path to old new =
     (tree : List Directory) × ((target : Target) × IsTree I L path tree × IsTarget old.image old.layout 2 to target

@@ -7,12 +7,12 @@ use Rattle.ods_shell.specs.Choosing.{AreThose}
 use Rattle.ods_shell.specs.Facts.{AreFacts}
 use Rattle.ods_shell.specs.Found.{AreLinesOf}
 
--- the entries of the directories with the numbers 1 to n, also of such as no walk reaches
+-- the entries of the directories with the numbers 1 to n, including directories that no walk reaches
 abbrev pub AreEntriesTo : List (List ℕ) → VolumeLayout → ℕ → List Listed → Type 0
 AreEntriesTo I L zero entries = entries ≡ []
 AreEntriesTo I L (suc n) entries = (before : List Listed) × (here : List Listed) × (entries ≡ before ++ here) × AreEntriesTo I L n before × AreLinesOf I L (suc n) here
 
--- the entry names file n, which is there
+-- the entry names file n, which exists
 pub record NamesFile (I : List (List ℕ)) (L : VolumeLayout) (n : ℕ) (e : Listed) : Type 0 where
   pub facts : Facts
   pub are : AreFacts I L e.file.number facts

@@ -1,4 +1,4 @@
--- What chmod and chown do: each file that is named gets another protection word, or another owner.
+-- The effect of chmod and chown: each selected file receives another protection word, or another owner.
 use Rattle.std.specs.Prelude.{◌≡◌, ◌⊎◌, ℕ, List, [], ◌∷◌, Option, Some, None}
 use Rattle.std.specs.Borrow.{Bor}
 use Rattle.std.specs.String.{string_bytes}
@@ -17,34 +17,36 @@ use Rattle.ods_upkeep.specs.declared.failure.Failure.{Failure}
 use Rattle.ods_upkeep.specs.declared.failure.Why.{Why}
 use Rattle.ods_upkeep.specs.declared.failure.Why.TheVariants.{Path, Request}
 
--- the file that was found gets these, each where it is given; an entry that names no file has none
+-- the file that was found receives these, each if it is given; an entry that names no file has none
 abbrev pub GetsAccess : Option Uic → Option ℕ → Option Facts → Filed → Filed → Type 0
 GetsAccess owner protection None old new = ⊥
 GetsAccess owner protection (Some facts) old new = HasGiven old facts.file owner protection new
 
--- each of these, one after another
+-- each of these, in order
 abbrev pub GetAccess : Option Uic → Option ℕ → List Found → Filed → Filed → Type 0
 GetAccess owner protection [] old new = new ≡ old
 GetAccess owner protection (f ∷ found) old new = (mid : Filed) × GetsAccess owner protection f.facts old mid × GetAccess owner protection found mid new
 
--- Each file that these paths name, the highest version where they say none, has got this owner and this protection, each where it is given. Nothing else was done.
+-- Each file that these paths select, the highest version if they specify none, has received this owner and this protection, each if it is given.
+-- Nothing else was done.
 abbrev pub AreGiven : Option Uic → Option ℕ → List (Bor (List ℕ)) → Filed → Filed → Type 0
 AreGiven owner protection paths old new =
     (found : List Found) × AreSources old.image old.layout (highest alone.Themselves) paths found × GetAccess owner protection found old new
 
--- why what was found gets none: its entry names no file; or the user may not give it, or there is no memory
+-- why the found file does not receive them: its entry names no file; or the user may not give them, or out of memory
 abbrev pub GetsNone : Option Facts → Filed → Why → Type 0
 GetsNone None old why = why ≡ Path NoSuchFile
 GetsNone (Some facts) old why = (reason : Refusal) × (why ≡ Request reason) × IsWhyNotGiven old facts.file reason
 
--- These get them, one after another, up to one that does not.
+-- These receive them, in order, up to one that does not.
 abbrev pub StopsGiving : Option Uic → Option ℕ → List Found → Filed → Filed → Failure → Type 0
 StopsGiving owner protection [] old new failure = ⊥
 StopsGiving owner protection (f ∷ found) old new failure =
     (HasPath failure (string_bytes f.path) × (new ≡ old) × GetsNone f.facts old failure.why)
     ⊎ ((mid : Filed) × GetsAccess owner protection f.facts old mid × StopsGiving owner protection found mid new failure)
 
--- Why not each file that these paths name gets them, and what was done before: there are no sources, and nothing was done; or one gets none.
+-- Why not each file that these paths select receives them, and what was done before: there are no sources, and nothing was done; or one does not
+-- receive them.
 abbrev pub AreNotGiven : Option Uic → Option ℕ → List (Bor (List ℕ)) → Filed → Filed → Failure → Type 0
 AreNotGiven owner protection paths old new failure =
     ((new ≡ old) × AreNoSources old.image old.layout (highest alone.Themselves) paths failure)

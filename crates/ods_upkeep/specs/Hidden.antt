@@ -5,7 +5,7 @@ use Rattle.ods_space.specs.Files.{HasBlocks}
 use Rattle.ods_directory.specs.Hidden.{HasHidden}
 use Rattle.ods_mount.specs.Faults.{IsDirectoryFile, contents_of, mark_at}
 
--- file n is a directory, and an entry of its blocks behind its end mark names a file
+-- file n is a directory, and an entry of its blocks past its end mark names a file
 pub record HidesEntries (I : List (List ℕ)) (L : VolumeLayout) (n : ℕ) : Type 0 where
   pub directory : IsDirectoryFile I L n
   pub lbns : List ℕ

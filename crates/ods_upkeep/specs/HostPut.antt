@@ -1,4 +1,4 @@
--- What is left of a volume, and of what is known of it, when a host file has been put.
+-- What is left of a volume, and of its known facts, when a host file has been put.
 use Rattle.std.specs.Prelude.{◌≡◌, ◌≢◌, ℕ, List, slice_index, Option, Some, None, unwrap_or}
 use Rattle.std.specs.Option.{option_or}
 use Rattle.ods_base.specs.Name.{RadName, directory_type}
@@ -13,23 +13,23 @@ use Rattle.ods_upkeep.specs.Rooms.{IsRoomMade}
 use Rattle.ods_upkeep.specs.Versions.{IsNoted, Noted, behind, version_in}
 use Rattle.ods_upkeep.specs.Written.{IsWritten}
 
--- The version of a new file's ident: the one that is said; else the one behind the highest that is known, or that the user finds.
+-- The version of the ident of a new file: the given one; otherwise the one after the highest that is known, or that the user finds.
 abbrev pub IsVersionFor : Option Noted → Filed → FileId → RadName → Option ℕ → ℕ → Filed → Type 0
 IsVersionFor highest old dir name (Some said) version new = (version ≡ said) × (new ≡ old)
 IsVersionFor (Some noted) old dir name None version new = (version ≡ behind (version_in noted name)) × (new ≡ old)
 IsVersionFor None old dir name None version new = IsNextVersion old dir name None version new
 
--- one entry more names this file, where names are counted
+-- one entry more names this file, if names are counted
 abbrev pub AreCountedOn : Option (List ℕ) → FileId → Option (List ℕ) → Type 0
 AreCountedOn None file after = after ≡ None
 AreCountedOn (Some before) file after = (counts : List ℕ) × (after ≡ Some counts) × (slice_index counts ≡ one_more (slice_index before) file.number)
 
--- this version of the name is there too, where the highest versions are known
+-- this version of the name is recorded too, if the highest versions are known
 abbrev pub AreNotedOn : Option Noted → RadName → ℕ → Option Noted → Type 0
 AreNotedOn None name version after = after ≡ None
 AreNotedOn (Some before) name version after = (noted : Noted) × (after ≡ Some noted) × IsNoted before name version noted
 
--- what was looked up at the beginning, and stays; names are counted then where they were
+-- what was looked up at the beginning, and stays; names are counted then if they were
 pub record IsStill (p q : InPut) : Type 0 where
   pub target : q.target ≡ p.target
   pub stamp : q.stamp ≡ p.stamp
@@ -39,9 +39,9 @@ pub record IsStill (p q : InPut) : Type 0 where
   pub owner : q.owner ≡ p.owner
   pub counts : replaces q ≡ replaces p
 
--- A file of this name, these attributes and these bytes has been put, by what was known before; and this is known then.
+-- A file of this name, these attributes and these bytes has been put, with the earlier facts; and these are the facts then.
 pub record IsPutAs (p : InPut) (name : RadName) (attributes bytes : List ℕ) (old : Filed) (q : InPut) (new : Filed) : Type 0 where
-  -- the version that is free then, where room is made for the file, and the volume then
+  -- the version that is free then, if room is made for the file, and the volume then
   pub free : Option ℕ
   pub left : Option (List ℕ)
   pub mid : Filed
@@ -50,7 +50,7 @@ pub record IsPutAs (p : InPut) (name : RadName) (attributes bytes : List ℕ) (o
   pub version : ℕ
   pub seen : Filed
   pub next : IsVersionFor p.highest mid p.target.directory name (option_or free p.target.version) version seen
-  -- the file is made by its owner, and entered under the version that is free or said, or the next one
+  -- the file is made by its owner, and entered under the version that is free or given, or the next one
   pub file : FileId
   pub made : IsMadeFor p.placing (unwrap_or p.owner old.user) p.target.directory (option_or free p.target.version) (record { name = name; version = version; stamp = p.stamp }) attributes bytes file seen new
   -- it is counted, and its version is noted
@@ -58,7 +58,8 @@ pub record IsPutAs (p : InPut) (name : RadName) (attributes bytes : List ℕ) (o
   pub noted : AreNotedOn p.highest name version q.highest
   pub still : IsStill p q
 
--- A host file of this name and these bytes has been put. Its name on the volume is the one that is said, or its own, and not of the type DIR. Its form gives attributes and bytes.
+-- A host file of this name and these bytes has been put. Its name on the volume is the given one, or its own, and not of the type DIR. Its form gives
+-- attributes and bytes.
 pub record IsHostPut (p : InPut) (host bytes : List ℕ) (old : Filed) (q : InPut) (new : Filed) : Type 0 where
   pub name : RadName
   pub named : IsNameFor p.target.name host name

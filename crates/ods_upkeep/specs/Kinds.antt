@@ -3,7 +3,7 @@ use Rattle.std.specs.Prelude.{◌≡◌, Bool, true, false}
 use Rattle.ods_request.specs.declared.requests.Request.{Request}
 use Rattle.ods_request.specs.declared.requests.Request.TheVariants.{Create, Extend, Truncate, Delete, Enter, LookUp, Remove, Write, Stat, SetUser}
 
--- rm and rmdir: names go, and files where not the entries alone are meant
+-- rm and rmdir: names are removed, and files unless only the entries are meant
 abbrev pub Removes : Bool → Request → Type 0
 Removes entry_alone (Remove dir name pick) = Unit {0}
 Removes entry_alone (Delete file) = entry_alone ≡ false
@@ -26,7 +26,7 @@ Copies (LookUp dir name pick) = Unit {0}
 Copies (Enter dir name version file) = Unit {0}
 Copies r = ⊥
 
--- put: the same, and where files are replaced, these are looked at, and their names and they themselves go
+-- put: the same, and if files are replaced, their Stat, and the removal of their names and of the files
 abbrev pub Puts : Bool → Request → Type 0
 Puts replaces (Create name version blocks stamp) = Unit {0}
 Puts replaces (Extend file blocks) = Unit {0}

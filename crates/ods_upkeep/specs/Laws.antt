@@ -1,4 +1,4 @@
--- What two commands leave together, by the catalogues that the blocks show: laws over the definitions alone.
+-- The result of two commands together, by the catalogues that the blocks show: laws over definitions only.
 use Rattle.std.specs.Prelude.{◌≡◌, ℕ, List, [], ◌∷◌, length, take, Option, Some}
 use Rattle.std.specs.List.{concat}
 use Rattle.std.specs.FinMap as finmap
@@ -26,7 +26,8 @@ use Rattle.ods_upkeep.specs.PutFor.{IsMadeFor}
 use Rattle.ods_upkeep.specs.Removed.{Does}
 use Rattle.ods_upkeep.specs.declared.asked.Placing.{Placing}
 
--- The blocks now show each catalogue that they showed before. What blocks show has no past: the ID of a file that came and went may be used up.
+-- The blocks now show each catalogue that they showed before. What blocks show has no past: the ID of a file that was created and deleted may be used
+-- up.
 abbrev pub ShowsAgain : Filed → Filed → Type 0
 ShowsAgain old new = (C : Catalogue) → ShowsBy old.image old.layout C → ShowsBy new.image new.layout C
 
@@ -36,18 +37,18 @@ RmUndoesPut = (placing : Placing) (owner : Uic) (dir : FileId) (said : Option �
     → (put : IsMadeFor placing owner dir said heading attributes bytes file old mid) → put.entered.0 ≡ Entered version
     → Does mid (Remove dir heading.name (Exact version) ∷ Delete file ∷ []) new → ShowsAgain old new
 
--- in this directory of the catalogue the entry of this name and version is the file's
+-- in this directory of the catalogue the entry of this name and version names the file
 abbrev pub IsEntryOf : Catalogue → FileId → RadName → ℕ → FileId → Type 0
 IsEntryOf C dir name version file = finmap.get (names_of (file_at C dir).body) (key_of name version) ≡ Some file
 
--- A name that is moved, and from its new place back under the version that it had, leaves the catalogue as it was. It may move within one directory.
+-- A name that is moved, and back from its new directory under its old version, leaves the catalogue unchanged. It may move within one directory.
 abbrev pub MvThereAndBack : Type 0
 MvThereAndBack = (file from to : FileId) (name other : RadName) (version reached : ℕ) (said : Option ℕ) (old mid new : Filed)
     → (there : Does old (Enter to other said file ∷ Remove from name (Exact version) ∷ []) mid) → there.1.0 ≡ Entered reached
     → Does mid (Enter from name (Some version) file ∷ Remove to other (Exact reached) ∷ []) new
     → (C : Catalogue) → ShowsBy old.image old.layout C → IsEntryOf C from name version file → ShowsBy new.image new.layout C
 
--- What is left of a file that was put, with these attributes and these bytes.
+-- The result for a file that was put, with these attributes and these bytes.
 pub record IsGotBack (new : Filed) (id : FileId) (attributes bytes : List ℕ) : Type 0 where
   -- each catalogue that the blocks show has it, with the bytes as its blocks
   pub there : (C : Catalogue) → ShowsBy new.image new.layout C → (file : File) × (finmap.get C.files id ≡ Some file) × (file.body ≡ Plain attributes (blocks_with bytes))
@@ -55,16 +56,18 @@ pub record IsGotBack (new : Filed) (id : FileId) (attributes bytes : List ℕ) :
   pub front : take (end_of attributes) (concat (blocks_with bytes)) ≡ bytes
   -- whatever body the number has, it has the attributes, and its bytes up to the end of file are the bytes
   pub gives : GivesBack new.image new.layout id.number attributes bytes
-  -- `get -b` gives the bytes, and fails for want of memory alone
+  -- `get -b` gives the bytes, and fails only out of memory
   pub got : (given : List ℕ) (said : Option Remark) → IsGot new.image new.layout id.number Binary given said → given ≡ bytes
   pub fails : (fault : FormFault) → IsNotGot new.image new.layout id.number Binary fault → fault ≡ NoMemory
 
--- A file that is put with attributes whose end of file is the length of its bytes gives its bytes back. The blocks before show some catalogue, as those of each sound volume do.
+-- A file that is put with attributes whose end of file is the length of its bytes gives its bytes back. The blocks before show some catalogue, like
+-- the blocks of each sound volume.
 abbrev pub GetGivesWhatWasPut : Type 0
 GetGivesWhatWasPut = (placing : Placing) (owner : Uic) (dir : FileId) (said : Option ℕ) (heading : Heading) (attributes bytes : List ℕ) (file : FileId) (old new : Filed) (C : Catalogue)
     → ShowsBy old.image old.layout C → IsMadeFor placing owner dir said heading attributes bytes file old new → end_of attributes ≡ length bytes → IsGotBack new file attributes bytes
 
--- What append leaves of a catalogue that the blocks show, and whose file has the old bytes: it has all bytes then, and the new attributes say that they end there. Nothing else has changed.
+-- The effect of append on a catalogue that the blocks show, whose file has the old bytes: it has all bytes then, and the new attributes state that
+-- they end there. Nothing else has changed.
 abbrev pub AppendPutsBehind : Type 0
 AppendPutsBehind = (facts : Facts) (held bytes all attributes : List ℕ) (old new : Filed) → length facts.attributes ≡ 32 → AreBehind facts.attributes held bytes all attributes
     → Does old (appends facts (length held) all attributes) new → (C : Catalogue) → ShowsBy old.image old.layout C → HoldsBytes C facts.file facts.blocks held

@@ -1,4 +1,4 @@
--- What contracts see of files that are being put.
+-- The contract view of files that are being put.
 use Rattle.std.specs.Prelude.{ℕ, Bool, List, Option, is_some}
 use Rattle.ods_base.specs.declared.file_id.Uic.{Uic}
 use Rattle.ods_upkeep.specs.declared.asked.Placing.{Placing}
@@ -6,22 +6,22 @@ use Rattle.ods_upkeep.specs.declared.asked.PutForm.{PutForm}
 use Rattle.ods_upkeep.specs.declared.target.Target.{Target}
 use Rattle.ods_upkeep.specs.Versions.{Noted}
 
--- what is known before a file is put
+-- the known facts before a file is put
 pub record InPut : Type 0 where
-  -- where it goes
+  -- the target
   pub target : Target
   -- its date and time of creation
   pub stamp : List ℕ
-  -- the form of its bytes, and the attributes of the file that it is to be like
+  -- the form of its bytes, and the attributes of the model file
   pub form : PutForm
   pub like : Option (List ℕ)
-  -- where its blocks stand
+  -- where its blocks are allocated
   pub placing : Placing
-  -- whose it is, where another is said than who asks
+  -- its owner, if it differs from the requesting user
   pub owner : Option Uic
-  -- how often entries name each file, where files are replaced
+  -- how often entries name each file, if files are replaced
   pub names : Option (List ℕ)
-  -- the highest versions of the target's names, where several files are put and none is replaced
+  -- the highest versions of the target's names, if several files are put and none is replaced
   pub highest : Option Noted
 
 -- the same, with another date and time of creation

@@ -1,4 +1,4 @@
--- Directories that mkdir makes: where, for whom, and what it leaves of a mounted volume.
+-- Directories that mkdir makes: where, for whom, and the resulting volume.
 use Rattle.std.specs.Prelude.{◌≡◌, ◌≢◌, ◌+◌, ◌/◌, ℕ, false, max, List, [], ◌∷◌, ◌++◌, codes, ◌⊎◌, Option, Some, None}
 use Rattle.std.specs.Borrow.{Bor}
 use Rattle.ods_base.specs.Name.{RadName, Spells, title}
@@ -24,7 +24,8 @@ use Rattle.ods_upkeep.specs.Target.{IsTheDirectory}
 abbrev pub directories_named : List ℕ → Versions → Files
 directories_named name versions = record { name = name; kind = codes "DIR"; versions = Some versions }
 
--- The path means a new directory of this name in this one. No version of the name is there, and no entry of the directory above is hidden. The name is not that of the master directory in itself.
+-- The path specifies a new directory of this name in this one. No version of the name exists, and no entry of the directory above is hidden. The name
+-- is not that of the master directory in itself.
 pub record IsNewPlace (I : List (List ℕ)) (L : VolumeLayout) (path : List ℕ) (dir : FileId) (name : RadName) : Type 0 where
   pub up : Folder
   pub text : List ℕ
@@ -40,18 +41,18 @@ pub record IsNewPlace (I : List (List ℕ)) (L : VolumeLayout) (path : List ℕ)
 abbrev pub IsNumbered : FileId → RadName → ℕ → ℕ → Type 0
 IsNumbered dir name group member = (dir.number ≡ 4) × IsNumberedName (title name) group member
 
--- Whose a new directory is: the one's that is said; else that of the group and the member of its name; else the user's.
+-- The owner of a new directory: the given one; otherwise the group and the member in its name; otherwise the user.
 abbrev pub IsOwner : Option Uic → Uic → FileId → RadName → Uic → Type 0
 IsOwner (Some said) user dir name owner = owner ≡ said
 IsOwner None user dir name owner =
     IsNumbered dir name owner.group owner.member
     ⊎ (((group member : ℕ) → ¬ IsNumbered dir name group member) × (owner ≡ user))
 
--- how many blocks a directory has with room for so many names: one for each 32, or one
+-- how many blocks a directory has with room for this number of names: one for each 32, or one
 abbrev pub blocks_for : ℕ → ℕ
 blocks_for names = max ((names + 31) / 32) 1
 
--- The directory that the path means was made: its owner asked for the new file, and then the user entered it under version 1.
+-- The directory of the path was made: its owner requested the new file, and then the user entered it under version 1.
 pub record IsMade (said : Option Uic) (names : ℕ) (stamp : List ℕ) (path : List ℕ) (old new : Filed) : Type 0 where
   pub dir : FileId
   pub name : RadName
@@ -64,7 +65,7 @@ pub record IsMade (said : Option Uic) (names : ℕ) (stamp : List ℕ) (path : L
   pub created : IsDone (for_another old owner) (Create name 1 (blocks_for names) stamp) (Created file) mid
   pub entered : IsObeyed (for_another mid old.user) (Enter dir name (Some 1) file) new
 
--- the directories that these paths mean were made, one after another: a later one may lie below an earlier one
+-- the directories of these paths were made, in order: a later one may be below an earlier one
 abbrev pub AreMade : Option Uic → ℕ → List ℕ → List (Bor (List ℕ)) → Filed → Filed → Type 0
 AreMade said names stamp [] old new = new ≡ old
 AreMade said names stamp (path ∷ paths) old new = (mid : Filed) × IsMade said names stamp path.now old mid × AreMade said names stamp paths mid new

@@ -1,4 +1,4 @@
--- Small pieces: the exit status of a refusal, parts of a path, entries that stay, and attributes that change in part.
+-- Small pieces: the exit status of a refusal, parts of a path, entries that are never removed, and attributes that change in part.
 use Rattle.std.specs.Prelude.{◌≡◌, ◌≤◌, ◌==◌, ◌||◌, ℕ, Bool, Option, Some, ◌+◌, List, ◌∷◌, [], ◌++◌, ◌/◌, ◌%◌, take, drop}
 use Rattle.std.specs.List.{after_last}
 use Rattle.ods_request.specs.declared.refusals.Refusal.TheVariants as refusal
@@ -13,7 +13,8 @@ use Rattle.ods_upkeep.specs.declared.failure.Why.{Why}
 use Rattle.ods_upkeep.specs.declared.failure.Why.TheVariants.{Path, Request, Text, Put, BadName, IsDirectory, DirectoryType, DirectoryThere, IntoItself, IsId, Several, Versioned, IsNamed, PastEnd, Hidden}
 use Rattle.ods_upkeep.specs.PutFor.{HasPutStatus}
 
--- The exit status of a refusal: want of memory is the host's, words that mean nothing are wrong words, and what is asked for and is not done is refused. That of a path is the path's own.
+-- The exit status of a refusal: out of memory is a fault of the host, words without a meaning are wrong words, and a request that is not done is
+-- refused. A path has its own status.
 abbrev pub HasStatus : Why → Status → Type 0
 HasStatus (Path fault) s = HasPathStatus fault s
 HasStatus (Request refusal.NoMemory) s = s ≡ Host
@@ -33,14 +34,14 @@ HasStatus IsNamed s = s ≡ Refused
 HasStatus PastEnd s = s ≡ Refused
 HasStatus Hidden s = s ≡ Refused
 
--- the last part of a path: what stands behind its last `/` or `]`, or all where there is none
+-- the last part of a path: the part after its last `/` or `]`, or all if there is none
 abbrev pub ends_folder : ℕ → Bool
 ends_folder c = c == 47 || c == 93
 
 abbrev pub last_part : List ℕ → List ℕ
 last_part path = after_last ends_folder path
 
--- the entry stays: it stands in the master directory, file 4, and names a file of the volume's own, 1 to 5
+-- the entry is never removed: it is in the master directory, file 4, and names a file of the volume's own, 1 to 5
 pub record Stays (place : Option EntryPlace) (facts : Option Facts) : Type 0 where
   pub at : EntryPlace
   pub file : Facts
@@ -57,6 +58,6 @@ octal_digits n = (48 + n / 64) ∷ (48 + n / 8 % 8) ∷ (48 + n % 8) ∷ []
 abbrev pub like_those : List ℕ → List ℕ → List ℕ
 like_those attributes others = take 4 others ++ drop 4 attributes
 
--- the attributes with F.HIBK, F.EFBK and F.FFBY of a file of so many bytes
+-- the attributes with F.HIBK, F.EFBK and F.FFBY of a file with this number of bytes
 abbrev pub with_end : List ℕ → ℕ → List ℕ
 with_end own bytes = take 4 own ++ take 10 (drop 4 (attributes 1 0 512 bytes)) ++ drop 14 own

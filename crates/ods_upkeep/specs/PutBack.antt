@@ -1,4 +1,4 @@
--- What put -r leaves of a file of the host, and what get gives of it: laws over the definitions alone.
+-- The result of put -r for a file of the host, and what get gives of it: laws over definitions only.
 use Rattle.std.specs.Prelude.{◌≡◌, ℕ, List, [], ◌∷◌, Option, None}
 use Rattle.std.specs.List.{All}
 use Rattle.ods_base.specs.Name.{RadName}
@@ -22,51 +22,52 @@ use Rattle.ods_upkeep.specs.declared.asked.PutForm.{PutForm}
 use Rattle.ods_upkeep.specs.declared.asked.PutForm.TheVariants as form
 use Rattle.ods_upkeep.specs.declared.putting_tree.TreeForm.{TreeForm}
 
--- the form is chosen by the contents, or the bytes are written as they are; a text that is asked for may get a last LF, and of a form of four bytes `get` chooses
+-- the form is chosen by the contents, or the bytes are written unchanged; a requested text may get a last LF, and of a form of four bytes `get`
+-- chooses
 abbrev pub KeepsBytes : PutForm → Type 0
 KeepsBytes form.ByContents = Unit {0}
 KeepsBytes form.Binary = Unit {0}
 KeepsBytes form.Text = ⊥
 KeepsBytes (form.Said four) = ⊥
 
--- A file of a tree of the host is there, under the names that its path says, and gives back what was written of it.
+-- A file of a tree of the host exists, under the names in its path, and gives back the written bytes.
 pub record IsLeafBack (how : TreeForm) (dir : FileId) (path bytes : List ℕ) (new : Filed) : Type 0 where
-  -- the directories that the path says, and the one to which they lead
+  -- the directories in the path, and the directory that they reach
   pub names : List RadName
   pub says : SaysFolders path names
   pub place : FileId
   pub way : (D : Catalogue) → ShowsBy new.image new.layout D → IsWayIn D dir names place
-  -- the name and the version that the file's own name says
+  -- the name and the version in the file's own name
   pub folders : List (List ℕ)
   pub last : List ℕ
   pub parted : IsParted path folders last
   pub name : RadName
   pub version : Option ℕ
   pub named : IsTreeName last name version
-  -- what is written of its bytes, and the file that each catalogue has
+  -- the written bytes, and the file that each catalogue has
   pub attributes : List ℕ
   pub stored : List ℕ
   pub written : IsWritten how.form None bytes attributes stored
   pub id : FileId
   pub there : (D : Catalogue) → ShowsBy new.image new.layout D → IsCopyIn D place name version how.stamp attributes (blocks_with stored) id
-  -- `get -b` gives what was written; `get` gives the very bytes of the host file, and fails for want of memory alone
+  -- `get -b` gives the written bytes; `get` gives exactly the bytes of the host file, and fails only out of memory
   pub gives : GivesBack new.image new.layout id.number attributes stored
   pub got : KeepsBytes how.form → (given : List ℕ) (said : Option Remark) → IsGot new.image new.layout id.number ByKind given said → given ≡ bytes
   pub fails : KeepsBytes how.form → (fault : FormFault) → IsNotGot new.image new.layout id.number ByKind fault → fault ≡ NoMemory
 
--- A file of a tree that was put is there, and `get` gives its bytes again. All that was there is left.
+-- A file of a tree that was put exists, and `get` gives its bytes again. Everything that was there is left.
 abbrev pub LeafComesBack : Type 0
 LeafComesBack = (how : TreeForm) (dir : FileId) (path bytes : List ℕ) (old new : Filed) (C : Catalogue) → ShowsBy old.image old.layout C → IsLeafPut how dir path bytes old new
     → IsLeafBack how dir path bytes new × LeavesAll old new
 
--- The directories that a folder's path says are there.
+-- The directories of a folder's path exist.
 pub record IsFolderThere (dir : FileId) (path : List ℕ) (new : Filed) : Type 0 where
   pub names : List RadName
   pub says : SaysFolders path names
   pub place : FileId
   pub way : (D : Catalogue) → ShowsBy new.image new.layout D → IsWayIn D dir names place
 
--- what stands in a tree: a folder, with the date of its directory, and a file with its bytes
+-- an entry of a tree: a folder, with the date of its directory, or a file with its bytes
 pub data TreeItem : Type 0 where
   AFolder : List ℕ → List ℕ → TreeItem
   AFile : TreeForm → List ℕ → List ℕ → TreeItem
@@ -76,17 +77,18 @@ abbrev pub IsItemPut : FileId → TreeItem → Filed → Filed → Type 0
 IsItemPut dir (AFolder stamp path) old new = IsFolderPut stamp dir path old new
 IsItemPut dir (AFile how path bytes) old new = IsLeafPut how dir path bytes old new
 
--- these are put, one after another
+-- these are put, in order
 abbrev pub AreItemsPut : FileId → List TreeItem → Filed → Filed → Type 0
 AreItemsPut dir [] old new = new ≡ old
 AreItemsPut dir (item ∷ items) old new = (mid : Filed) × IsItemPut dir item old mid × AreItemsPut dir items mid new
 
--- it is there
+-- it exists
 abbrev pub IsItemBack : FileId → Filed → TreeItem → Type 0
 IsItemBack dir new (AFolder stamp path) = IsFolderThere dir path new
 IsItemBack dir new (AFile how path bytes) = IsLeafBack how dir path bytes new
 
--- Folders and files of a tree that are put one after another are all there at the end, and `get` gives the bytes of each file again. All that was there is left.
+-- Folders and files of a tree that are put in order exist at the end, and `get` gives the bytes of each file again. Everything that was there is
+-- left.
 abbrev pub TreeComesBack : Type 0
 TreeComesBack = (dir : FileId) (items : List TreeItem) (old new : Filed) (C : Catalogue) → ShowsBy old.image old.layout C → AreItemsPut dir items old new
     → All (IsItemBack dir new) items × LeavesAll old new

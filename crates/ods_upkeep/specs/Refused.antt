@@ -1,4 +1,4 @@
--- Why commands are refused: a path names nothing, a request is refused, or there is no memory.
+-- Why commands are refused: a path selects nothing, a request is refused, or out of memory.
 use Rattle.std.specs.Prelude.{◌≡◌, ◌⊎◌, ℕ, List, [], ◌∷◌, ◌++◌, codes, Option, Some, None}
 use Rattle.std.specs.Borrow.{Bor}
 use Rattle.std.specs.List.{All}
@@ -40,16 +40,16 @@ for_fault fault.NoMemory = no_memory
 abbrev pub IsRefusedBy : Filed → Asked → Why → Type 0
 IsRefusedBy f r why = (reason : Refusal) × (why ≡ Request reason) × IsRefusedFor f r reason
 
--- why a request is not done: the volume refuses it; or it says a version that is none, and is not asked
+-- why a request is not done: the volume refuses it; or its version is not valid, and it is not made
 abbrev pub IsNotDone : Filed → Asked → Why → Type 0
 IsNotDone f r why = IsRefusedBy f r why ⊎ ((¬ CanBeAsked r) × (why ≡ Request refusal.VersionsFull))
 
--- Of these requests, one after another, all before one are accepted. That one is not done for this reason, and nothing more is asked.
+-- Of these requests, in order, all before one are accepted. That one is not done for this reason, and no more are made.
 abbrev pub StopsAt : Filed → List Asked → Filed → Why → Type 0
 StopsAt old [] new why = ⊥
 StopsAt old (r ∷ rs) new why = ((new ≡ old) × IsNotDone old r why) ⊎ ((mid : Filed) × IsObeyed old r mid × StopsAt mid rs new why)
 
--- the failure says this path, or none where there is no memory for it
+-- the failure has this path, or none if there is no memory for it
 abbrev pub HasPath : Failure → List ℕ → Type 0
 HasPath failure path = (string_bytes failure.path ≡ path) ⊎ (string_bytes failure.path ≡ [])
 
@@ -57,37 +57,37 @@ HasPath failure path = (string_bytes failure.path ≡ path) ⊎ (string_bytes fa
 abbrev pub IsOutOfMemory : Failure → Type 0
 IsOutOfMemory failure = (string_bytes failure.path ≡ []) × (failure.why ≡ no_memory)
 
--- why a path names nothing
+-- why a path selects nothing
 abbrev pub IsNoSource : List (List ℕ) → VolumeLayout → Unsaid → List ℕ → Why → Type 0
 IsNoSource I L unsaid path why = (fault : PathFault) × (why ≡ for_fault fault) × IsPathFault I L path unsaid fault
 
--- the first of these paths that names nothing, and why
+-- the first of these paths that selects nothing, and why
 pub record IsFirstNoSource (I : List (List ℕ)) (L : VolumeLayout) (unsaid : Unsaid) (paths : List (Bor (List ℕ))) (failure : Failure) : Type 0 where
   pub before : List (Bor (List ℕ))
   pub path : Bor (List ℕ)
   pub behind : List (Bor (List ℕ))
   pub order : paths ≡ before ++ path ∷ behind
-  -- those before it name these
+  -- the paths before it select these
   pub named : List Found
   pub are : AreOfPaths I L unsaid before named
   pub none : IsNoSource I L unsaid path.now failure.why
   pub said : HasPath failure path.now
 
--- why there are no sources: one of the paths names nothing, or there is no memory to tell apart what they name
+-- why there are no sources: one of the paths selects nothing, or there is no memory to compare them
 abbrev pub AreNoSources : List (List ℕ) → VolumeLayout → Unsaid → List (Bor (List ℕ)) → Failure → Type 0
 AreNoSources I L unsaid paths failure = IsFirstNoSource I L unsaid paths failure ⊎ IsOutOfMemory failure
 
--- One of these may not be changed, as the failure says; all before it may.
+-- One of these may not be changed, as the failure states; all before it may.
 abbrev pub IsFirstKept : (Found → Why → Type 0) → List Found → Failure → Type 0
 IsFirstKept IsKept [] failure = ⊥
 IsFirstKept IsKept (f ∷ found) failure =
     (IsKept f failure.why × HasPath failure (string_bytes f.path)) ⊎ (((why : Why) → ¬ IsKept f why) × IsFirstKept IsKept found failure)
 
--- none of these is one that may not be changed
+-- each of these may be changed
 abbrev pub AreNotKept : (Found → Why → Type 0) → List Found → Type 0
 AreNotKept IsKept found = All (λ f. (why : Why) → ¬ IsKept f why) found
 
--- the name of the refusal of a request; what is refused for another reason has none
+-- the name of the refusal of a request; a refusal for another reason has none
 abbrev pub refusal_name : Why → List ℕ
 refusal_name (Request reason) = (refusal_row reason).1
 refusal_name (Path fault) = []
@@ -105,12 +105,12 @@ refusal_name IsNamed = []
 refusal_name PastEnd = []
 refusal_name Hidden = []
 
--- why a request is refused so, by the row of the refusal's name among the remedies
+-- why a request is refused this way, by the row of the refusal's name among the remedies
 abbrev pub reason_text : Option Row → List ℕ
 reason_text None = codes "it is refused"
 reason_text (Some row) = row.1
 
--- and what one can do then
+-- and the remedy then
 abbrev pub remedy_text : Option Row → List ℕ
 remedy_text None = codes "'check --all' says what is wrong with the volume"
 remedy_text (Some row) = row.2

@@ -1,4 +1,4 @@
--- What rm asks for: entries go, and then each file that no entry names any more.
+-- The requests of rm: entries are removed, and then each file that no entry names any more is deleted.
 use Rattle.std.specs.Prelude.{◌≡◌, ◌⊎◌, ◌==◌, ◌<◌, ℕ, Bool, true, false, if◌then◌else◌, List, [], ◌∷◌, ◌++◌, map, Option, Some, None}
 use Rattle.std.specs.Borrow.{Bor}
 use Rattle.std.specs.String.{string_bytes}
@@ -23,16 +23,16 @@ use Rattle.ods_upkeep.specs.declared.failure.Failure.{Failure}
 use Rattle.ods_upkeep.specs.declared.failure.Why.{Why}
 use Rattle.ods_upkeep.specs.declared.failure.Why.TheVariants.{Path, Request, Text, Put, BadName, IsDirectory, DirectoryType, DirectoryThere, IntoItself, IsId, Several, Versioned, IsNamed, PastEnd, Hidden}
 
--- just these requests of the user, one after another, each accepted
+-- exactly these requests of the user, in order, each accepted
 abbrev pub Does : Filed → List Asked → Filed → Type 0
 Does old requests new = Leads old (map Asks requests) new
 
--- this very entry goes
+-- exactly this entry is removed
 abbrev pub entry_gone : Option EntryPlace → List Asked
 entry_gone None = []
 entry_gone (Some p) = Remove p.directory p.entry.name (Exact p.entry.version) ∷ []
 
--- how many entries name each file, when this entry of the file is gone
+-- how many entries name each file, after this entry of the file is removed
 abbrev pub names_left : (ℕ → ℕ) → Option EntryPlace → Option Facts → ℕ → ℕ
 names_left names (Some p) (Some facts) = one_less names facts.file.number
 names_left names (Some p) None = names
@@ -43,32 +43,33 @@ abbrev pub file_gone : (ℕ → ℕ) → Option Facts → List Asked
 file_gone names None = []
 file_gone names (Some facts) = if names facts.file.number == 0 then Delete facts.file ∷ [] else []
 
--- one goes: its entry, and its file unless the entry alone is meant
+-- one is removed: its entry, and its file unless only the entry is meant
 abbrev pub one_gone : Bool → (ℕ → ℕ) → Option EntryPlace → Option Facts → List Asked
 one_gone true names place known = entry_gone place
 one_gone false names place known = entry_gone place ++ file_gone (names_left names place known) known
 
--- these go, one after another, where entries name each file so often
+-- these are removed, in order, if entries name each file this often
 abbrev pub removals : Bool → (ℕ → ℕ) → List Found → List Asked
 removals entry_alone names [] = []
 removals entry_alone names (f ∷ found) = one_gone entry_alone names f.place f.facts ++ removals entry_alone (names_left names f.place f.facts) found
 
--- what is meant where a path does not say it: with --newest the highest version
+-- the selection of a path that specifies none: with --newest the highest version
 abbrev pub unsaid_by : Bool → Unsaid
 unsaid_by true = highest alone.Refused
 unsaid_by false = record { versions = None; alone = alone.Refused }
 
--- a file is there that is a directory
+-- a file exists that is a directory
 abbrev pub IsOfDirectory : Option Facts → Type 0
 IsOfDirectory None = ⊥
 IsOfDirectory (Some facts) = facts.kind ≡ Directory
 
--- a file is there that entries name
+-- a file exists that entries name
 abbrev pub HasNames : (ℕ → ℕ) → Option Facts → Type 0
 HasNames names None = ⊥
 HasNames names (Some facts) = 0 < names facts.file.number
 
--- Why one may not go: it stays; it has no entry, and the entry alone is meant; or the file is meant too, and is a directory, or is named by its ID while entries name it.
+-- Why one may not be removed: it stays; it has no entry, and only the entry is meant; or the file is meant too, and is a directory, or is named by
+-- its ID while entries name it.
 abbrev pub MayNotGo : Bool → (ℕ → ℕ) → Found → Why → Type 0
 MayNotGo entry_alone names f (Request reason) = (reason ≡ Reserved) × Stays f.place f.facts
 MayNotGo entry_alone names f IsId = (entry_alone ≡ true) × (f.place ≡ None)
@@ -86,26 +87,28 @@ MayNotGo entry_alone names f Versioned = ⊥
 MayNotGo entry_alone names f PastEnd = ⊥
 MayNotGo entry_alone names f Hidden = ⊥
 
--- Each entry that these paths name has gone, and, unless the entries alone are meant, each file that no entry names then. All may go, and nothing else was done.
+-- Each entry that these paths select is removed, and, unless only the entries are meant, each file that no entry names then is deleted. All may be
+-- removed, and nothing else was done.
 abbrev pub IsRemoved : Bool → Bool → List (Bor (List ℕ)) → Filed → Filed → Type 0
 IsRemoved entry_alone newest paths old new =
     (found : List Found) × ((names : ℕ → ℕ) × AreSources old.image old.layout (unsaid_by newest) paths found × AreCounts old.image old.layout names
     × AreNotKept (MayNotGo entry_alone names) found × Does old (removals entry_alone names found) new)
 
--- These go, one after another, up to one, of which a request is not done.
+-- These are removed, in order, up to one with a request that is not done.
 abbrev pub StopsGoing : Bool → (ℕ → ℕ) → List Found → Filed → Filed → Failure → Type 0
 StopsGoing entry_alone names [] old new failure = ⊥
 StopsGoing entry_alone names (f ∷ found) old new failure =
     (HasPath failure (string_bytes f.path) × StopsAt old (one_gone entry_alone names f.place f.facts) new failure.why)
     ⊎ ((mid : Filed) × Does old (one_gone entry_alone names f.place f.facts) mid × StopsGoing entry_alone (names_left names f.place f.facts) found mid new failure)
 
--- why not all of these go: one may not, and nothing was done; or a request is not done
+-- why not all of these are removed: one may not be, and nothing was done; or a request is not done
 abbrev pub AreNotGone : Bool → (ℕ → ℕ) → List Found → Filed → Filed → Failure → Type 0
 AreNotGone entry_alone names found old new failure =
     ((new ≡ old) × IsFirstKept (MayNotGo entry_alone names) found failure)
     ⊎ (AreNotKept (MayNotGo entry_alone names) found × StopsGoing entry_alone names found old new failure)
 
--- Why not all that these paths name goes, and what was done before: there are no sources, or no memory to count names, and nothing was done; or not all of the sources go.
+-- Why not all that these paths select is removed, and what was done before: there are no sources, or no memory to count names, and nothing was done;
+-- or not all of the sources are removed.
 abbrev pub IsNotRemoved : Bool → Bool → List (Bor (List ℕ)) → Filed → Filed → Failure → Type 0
 IsNotRemoved entry_alone newest paths old new failure =
     ((new ≡ old) × AreNoSources old.image old.layout (unsaid_by newest) paths failure)

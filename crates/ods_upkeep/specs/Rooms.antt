@@ -1,4 +1,4 @@
--- How put makes room for a file where files are replaced: the entry that has the name goes, and its file where no other entry names it.
+-- How put makes room for a file if files are replaced: the entry with the name is removed, and its file is deleted if no other entry names it.
 use Rattle.std.specs.Prelude.{◌≡◌, ◌⊎◌, ◌==◌, ℕ, Bool, true, false, if◌then◌else◌, List, [], ◌∷◌, slice_index, Option, Some, None}
 use Rattle.ods_base.specs.Name.{RadName}
 use Rattle.ods_base.specs.declared.file_id.FileId.{FileId}
@@ -18,34 +18,35 @@ use Rattle.ods_upkeep.specs.Removed.{Does}
 use Rattle.ods_upkeep.specs.declared.failure.Why.{Why}
 use Rattle.ods_upkeep.specs.declared.failure.Why.TheVariants.{IsDirectory, Request}
 
--- the version that is looked up: the one that is said, or the highest
+-- the version that is looked up: the given one, or the highest
 abbrev pub pick_for : Option ℕ → Pick
 pick_for None = Highest
 pick_for (Some said) = Exact said
 
--- A Stat says that there is a file with this ID, and that it is plain; or that there is none.
+-- A Stat states that there is a file with this ID, and that it is plain; or that there is none.
 abbrev pub IsThere : Filed → FileId → Bool → Filed → Type 0
 IsThere old file true new = (shown : Shown) × IsDone old (Stat file) (Info shown) new × ((blocks : ℕ) × ((attributes : List ℕ) × (shown.kind ≡ Plain blocks attributes)))
 IsThere old file false new = IsRefusedFor old (Stat file) NoSuchFile × (new ≡ old)
 
--- Why a file is not replaced: a Stat says that it is a directory, or a file of the system; or the Stat is refused.
+-- Why a file is not replaced: a Stat states that it is a directory, or a file of the system; or the Stat is refused.
 abbrev pub IsNotPlain : Filed → FileId → Filed → Why → Type 0
 IsNotPlain old file new why =
     ((shown : Shown) × IsDone old (Stat file) (Info shown) new
     × (((count : ℕ) × (shown.kind ≡ Directory count) × (why ≡ IsDirectory)) ⊎ ((shown.kind ≡ System) × (why ≡ Request Reserved))))
     ⊎ ((reason : Refusal) × (why ≡ Request reason) × IsRefusedFor old (Stat file) reason × (new ≡ old))
 
--- how many entries name each file, when an entry is gone whose file is there or not
+-- how many entries name each file, after an entry is removed whose file exists or not
 abbrev pub counts_left : Bool → (ℕ → ℕ) → FileId → ℕ → ℕ
 counts_left true counts file = one_less counts file.number
 counts_left false counts file = counts
 
--- the file is deleted if it is there and no entry names it any more
+-- the file is deleted if it exists and no entry names it any more
 abbrev pub file_left : Bool → (ℕ → ℕ) → FileId → List Asked
 file_left true counts file = if counts file.number == 0 then Delete file ∷ [] else []
 file_left false counts file = []
 
--- This entry of the directory is gone, and its file if no other entry names it. Entries name each file so often before, and so often then.
+-- This entry of the directory is removed, and its file is deleted if no other entry names it. Entries name each file this often before, and this
+-- often then.
 pub record IsReplaced (dir : FileId) (name : RadName) (version : ℕ) (file : FileId) (before after : List ℕ) (old new : Filed) : Type 0 where
   pub there : Bool
   pub known : Filed
@@ -53,14 +54,14 @@ pub record IsReplaced (dir : FileId) (name : RadName) (version : ℕ) (file : Fi
   pub counted : slice_index after ≡ counts_left there (slice_index before) file
   pub gone : Does known (Remove dir name (Exact version) ∷ file_left there (counts_left there (slice_index before) file) file) new
 
--- An entry of this name, of the version that is said or else the highest, is found and gone; its version is free then.
+-- An entry of this name, of the given version or else the highest, is found and removed; its version is free then.
 pub record IsFreed (dir : FileId) (name : RadName) (said : Option ℕ) (version : ℕ) (before after : List ℕ) (old new : Filed) : Type 0 where
   pub file : FileId
   pub seen : Filed
   pub found : IsSeen old dir name (pick_for said) file version seen
   pub replaced : IsReplaced dir name version file before after seen new
 
--- Room is made for a name where files are replaced, and entries counted for that: an entry that the user finds is gone. Else nothing was done.
+-- Room is made for a name if files are replaced, and entries counted for that: an entry that the user finds is removed. Otherwise nothing was done.
 abbrev pub IsRoomMade : FileId → RadName → Option ℕ → Option ℕ → Option (List ℕ) → Option (List ℕ) → Filed → Filed → Type 0
 IsRoomMade dir name said free None after old new = (free ≡ None) × (after ≡ None) × (new ≡ old)
 IsRoomMade dir name said free (Some before) after old new =

@@ -1,4 +1,4 @@
--- The files that the words of a command name, each once, in the order in which they are changed.
+-- The files that the words of a command select, each once, in the order in which they are changed.
 use Rattle.std.specs.Prelude.{◌≡◌, ◌⊎◌, ℕ, List, [], ◌∷◌, ◌++◌, reverse, Option, Some, None}
 use Rattle.std.specs.Borrow.{Bor}
 use Rattle.std.specs.List.{Contains}
@@ -10,17 +10,17 @@ use Rattle.ods_shell.specs.declared.found.EntryPlace.{EntryPlace}
 use Rattle.ods_shell.specs.declared.found.Found.{Found}
 use Rattle.ods_shell.specs.Named.{AreNamedBy}
 
--- this is what a path names; where it does not say all, this is meant
+-- this is the selection of a path; if it does not specify everything, this applies
 abbrev pub AreOfPath : List (List ℕ) → VolumeLayout → Unsaid → List ℕ → List Found → Type 0
 AreOfPath I L unsaid path found = (says : Said) × Says path says × AreNamedBy I L [] says unsaid found
 
--- What these paths name, one path after another. Of one path the last comes first, so that of one name the versions rise.
+-- The files of these paths, one path after another. The files of one path are reversed, so that the versions of one name rise.
 abbrev pub AreOfPaths : List (List ℕ) → VolumeLayout → Unsaid → List (Bor (List ℕ)) → List Found → Type 0
 AreOfPaths I L unsaid [] all = all ≡ []
 AreOfPaths I L unsaid (path ∷ paths) all =
     (here : List Found) × (rest : List Found) × (all ≡ reverse here ++ rest) × AreOfPath I L unsaid path.now here × AreOfPaths I L unsaid paths rest
 
--- two entries are one: that of this name and version in this directory
+-- two entries are one: the entry of this name and version in this directory
 pub record IsSameEntry (a b : EntryPlace) : Type 0 where
   pub directory : a.directory.number ≡ b.directory.number
   pub name : a.entry.name ≡ b.entry.name
@@ -47,11 +47,11 @@ IsSame x y = IsSameOne x.place y.place x.facts y.facts
 abbrev pub IsAgain : List Found → Found → Type 0
 IsAgain seen x = (y : Found) × Contains seen y × IsSame y x
 
--- Behind those that were seen before, just the first of each that is not seen yet, in their order.
+-- After the files that were seen before, exactly the first of each that is not seen yet, in their order.
 abbrev pub AreFirst : List Found → List Found → List Found → Type 0
 AreFirst seen [] once = once ≡ []
 AreFirst seen (x ∷ xs) once = (IsAgain seen x × AreFirst (seen ++ x ∷ []) xs once) ⊎ ((¬ IsAgain seen x) × (rest : List Found) × (once ≡ x ∷ rest) × AreFirst (seen ++ x ∷ []) xs rest)
 
--- what these paths name, each once
+-- the files of these paths, each once
 abbrev pub AreSources : List (List ℕ) → VolumeLayout → Unsaid → List (Bor (List ℕ)) → List Found → Type 0
 AreSources I L unsaid paths once = (all : List Found) × AreOfPaths I L unsaid paths all × AreFirst [] all once

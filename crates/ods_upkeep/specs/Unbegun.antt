@@ -18,27 +18,28 @@ use Rattle.ods_upkeep.specs.declared.failure.Why.{Why}
 use Rattle.ods_upkeep.specs.declared.failure.Why.TheVariants.{IsDirectory, Path, Request, Several}
 use Rattle.ods_upkeep.specs.declared.target.Target.{Target}
 
--- Why files are not made like what a path names. It is not one file. Or it is one, which is not there, is a directory, or has a number of at most 2.
+-- Why files are not made like the file of a path. It is not one file. Or it is one, which does not exist, is a directory, or has a number of at most
+-- 2.
 pub data AreNoPattern (found : List Found) : Why → Type 0 where
   not_one : ((one : Found) → found ≢ one ∷ []) → AreNoPattern found Several
   not_there : (one : Found) → found ≡ one ∷ [] → one.facts ≡ None → AreNoPattern found (Path fault.NoSuchFile)
   directory : (one : Found) (facts : Facts) → found ≡ one ∷ [] → one.facts ≡ Some facts → facts.kind ≡ Directory → AreNoPattern found IsDirectory
   reserved : (one : Found) (facts : Facts) → found ≡ one ∷ [] → one.facts ≡ Some facts → facts.file.number ≤ 2 → AreNoPattern found (Request refusal.Reserved)
 
--- why a path says no file that new ones are to be like: it names nothing, or what it names is no pattern for them
+-- why a path specifies no model file: it selects nothing, or its selection is no model for them
 abbrev pub SaysNoPattern : List (List ℕ) → VolumeLayout → List ℕ → Why → Type 0
 SaysNoPattern I L path why = IsNoSource I L (highest alone.Refused) path why ⊎ ((found : List Found) × AreOfPath I L (highest alone.Refused) path found × AreNoPattern found why)
 
--- there is no file that the new ones are to be like, where one is said
+-- there is no model file, if one is given
 abbrev pub IsNotLike : List (List ℕ) → VolumeLayout → Option (Bor (List ℕ)) → Failure → Type 0
 IsNotLike I L None failure = ⊥
 IsNotLike I L (Some path) failure = SaysNoPattern I L path.now failure.why × HasPath failure path.now
 
--- There is no memory to count names, or to look up the highest versions. Neither is done where one file is put and none is replaced.
+-- There is no memory to count names, or to look up the highest versions. Neither is done if one file is put and none is replaced.
 abbrev pub AreUncounted : Bool → Bool → Failure → Type 0
 AreUncounted several replace failure = ((replace ≡ true) ⊎ (several ≡ true)) × IsOutOfMemory failure
 
--- Why put does not begin. There is no target. Or there is one, and no file that the new ones are to be like. Or nothing is amiss with both, and there is no memory to count.
+-- Why put does not begin. There is no target. Or there is one, and no model file. Or both are correct, and there is no memory to count.
 abbrev pub IsNotBegun : List (List ℕ) → VolumeLayout → Option (Bor (List ℕ)) → Bool → Option (Bor (List ℕ)) → Bool → Failure → Type 0
 IsNotBegun I L to several like replace failure =
     (IsNoTarget I L (count_of several) (path_to to) failure.why × HasPath failure (path_to to))

@@ -24,7 +24,7 @@ use Rattle.ods_upkeep.specs.declared.failure.Why.{Why}
 use Rattle.ods_upkeep.specs.declared.failure.Why.TheVariants.{Request}
 use Rattle.ods_upkeep.specs.declared.target.Target.{Target}
 
--- as far as it can be seen before, this file may be copied
+-- as far as it can be determined before, this file may be copied
 abbrev pub MayBeCopied : Uic → Target → Found → Type 0
 MayBeCopied user to f = (facts : Facts) × ((name : RadName) × IsCopyable user to f facts name)
 
@@ -33,13 +33,14 @@ abbrev pub MayAllBeCopied : Uic → Target → List Found → Type 0
 MayAllBeCopied user to [] = Unit {0}
 MayAllBeCopied user to (f ∷ found) = MayBeCopied user to f × MayAllBeCopied user to found
 
--- one of these may not, as the failure says; all before it may
+-- one of these may not, as the failure states; all before it may
 abbrev pub IsFirstUncopyable : Uic → Target → List Found → Failure → Type 0
 IsFirstUncopyable user to [] failure = ⊥
 IsFirstUncopyable user to (f ∷ found) failure =
     (IsUncopyable user to f failure.why × HasPath failure (string_bytes f.path)) ⊎ (MayBeCopied user to f × IsFirstUncopyable user to found failure)
 
--- Why no copy with these bytes is made of a file of which this is known: no volume has as many as its blocks hold, and nothing was done; or the copy is not made or entered.
+-- Why no copy with these bytes is made of a file of which this is known: no volume has as many bytes as its blocks hold, and nothing was done; or the
+-- copy is not made or entered.
 pub data IsCopyUnmade (placing : Placing) (to : Target) (name : RadName) (stamp : List ℕ) (facts : Facts) (bytes : List ℕ) (old new : Filed) : Why → Type 0 where
   too_large : 512 * 2 ^ 20 ≤ 512 * facts.blocks → new ≡ old → IsCopyUnmade placing to name stamp facts bytes old new (Request refusal.VolumeFull)
   unfiled : (why : Why) (version : ℕ) (mid : Filed) → IsNextVersion old to.directory name to.version version mid
@@ -53,7 +54,7 @@ pub data IsNotCopied (placing : Placing) (to : Target) (stamp : List ℕ) (found
   unmade : (why : Why) (facts : Facts) (name : RadName) (body : Body) (bytes : List ℕ) → IsCopyable old.user to found facts name → HasBody old.image old.layout facts.file.number body
       → bytes_in Raw body ≡ Some bytes → IsCopyUnmade placing to name stamp facts bytes old new why → IsNotCopied placing to stamp found old new why
 
--- These are copied, one after another, up to one that is not.
+-- These are copied, in order, up to one that is not.
 abbrev pub StopsCopying : Placing → Target → List ℕ → List Found → Filed → Filed → Failure → Type 0
 StopsCopying placing to stamp [] old new failure = ⊥
 StopsCopying placing to stamp (f ∷ found) old new failure =
@@ -66,7 +67,8 @@ AreNotCopied placing to stamp found old new failure =
     ((new ≡ old) × IsFirstUncopyable old.user to found failure)
     ⊎ (MayAllBeCopied old.user to found × StopsCopying placing to stamp found old new failure)
 
--- Why not all that these paths name is copied, and what was done before: there are no sources, or no target, and nothing was done; or not all of the sources are copied.
+-- Why not all files that these paths select are copied, and what was done before: there are no sources, or no target, and nothing was done; or not
+-- all of the sources are copied.
 abbrev pub IsNotCopiedTo : Placing → List ℕ → List (Bor (List ℕ)) → List ℕ → Filed → Filed → Failure → Type 0
 IsNotCopiedTo placing stamp paths to old new failure =
     ((new ≡ old) × AreNoSources old.image old.layout (highest alone.Files) paths failure)

@@ -35,7 +35,7 @@ pub data IsNotCopiedOver (I : List (List ℕ)) (L : VolumeLayout) (how : CopyFro
   unmade : (why : Why) (facts : Facts) (name : RadName) (body : Body) (bytes : List ℕ) → IsCopyable old.user to found facts name → HasBody I L facts.file.number body → bytes_in Raw body ≡ Some bytes
       → IsCopyUnmade (placing_of how facts) (target_for to found facts how.next) name (stamp_for facts stamp) facts bytes old new why → IsNotCopiedOver I L how to stamp found old new why
 
--- These are copied, one after another, up to one that is not.
+-- These are copied, in order, up to one that is not.
 abbrev pub StopsCopyingOver : List (List ℕ) → VolumeLayout → CopyFrom → Target → List ℕ → List Found → Filed → Filed → Failure → Type 0
 StopsCopyingOver I L how to stamp [] old new failure = ⊥
 StopsCopyingOver I L how to stamp (f ∷ found) old new failure =
@@ -48,32 +48,33 @@ AreNotCopiedOver I L how to stamp found old new failure =
     ((new ≡ old) × IsFirstUncopyable old.user to found failure)
     ⊎ (MayAllBeCopied old.user to found × ((ready : Filed) × MayHaveGrown (length found) old ready × StopsCopyingOver I L how to stamp found ready new failure))
 
--- why what is passed over is not copied: a directory is none of the files that are, and else it is one of the other volume's own files
+-- why a file that is passed over is not copied: a directory is not a file to copy, and otherwise it is one of the other volume's own files
 abbrev pub passed_why : Option Facts → Why
 passed_why None = Request refusal.Reserved
 passed_why (Some facts) = if is_directory facts.kind then IsDirectory else Request refusal.Reserved
 
--- each of these is passed over, as the failure says of the first
+-- each of these is passed over, as the failure states for the first
 abbrev pub AreAllPassed : List Found → Failure → Type 0
 AreAllPassed all failure =
     (first : Found) × ((rest : List Found) × (all ≡ first ∷ rest) × (are_passed_over all ≡ true) × (failure.why ≡ passed_why first.facts) × HasPath failure (string_bytes first.path))
 
--- why a path is refused of which it is to be seen whether it finds two entries of one name: it does, or it names nothing
+-- why a path is refused by the check for twins: it finds two entries of one name, or it selects nothing
 abbrev pub IsTwinned : List (List ℕ) → VolumeLayout → List ℕ → Why → Type 0
 IsTwinned I L path why =
     ((why ≡ Request refusal.NameTaken) × ((found : List Found) × AreOfPath I L (highest alone.Files) path found × HaveTwins found)) ⊎ IsNoSource I L (highest alone.Files) path why
 
--- so it is of one of these paths, as the failure says
+-- the same for one of these paths, as the failure states
 abbrev pub HasTwinned : List (List ℕ) → VolumeLayout → List (Bor (List ℕ)) → Failure → Type 0
 HasTwinned I L paths failure = (path : Bor (List ℕ)) × Contains paths path × IsTwinned I L path.now failure.why × HasPath failure path.now
 
--- why these paths find no files on the other volume: they find nothing there, or two entries of one name, or what they find is all passed over
+-- why these paths find no files on the other volume: they find nothing there, or two entries of one name, or all that they find is passed over
 abbrev pub AreNoFilesFrom : List (List ℕ) → VolumeLayout → List (Bor (List ℕ)) → Failure → Type 0
 AreNoFilesFrom I L paths failure =
     AreNoSources I L (highest alone.Files) paths failure ⊎ (HasTwinned I L paths failure
     ⊎ ((all : List Found) × AreSources I L (highest alone.Files) paths all × AreAllPassed all failure))
 
--- Why not all that these paths find on the other volume is copied, and what was done before: they find no files there, or there is no target, and nothing was done; or not all of the files are copied.
+-- Why not all files that these paths find on the other volume are copied, and what was done before: they find no files there, or there is no target,
+-- and nothing was done; or not all of the files are copied.
 abbrev pub IsNotCopiedFrom : List (List ℕ) → VolumeLayout → CopyFrom → List ℕ → List (Bor (List ℕ)) → List ℕ → Filed → Filed → Failure → Type 0
 IsNotCopiedFrom I L how stamp paths to old new failure =
     ((new ≡ old) × AreNoFilesFrom I L paths failure)

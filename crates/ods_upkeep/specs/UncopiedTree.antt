@@ -26,51 +26,53 @@ use Rattle.ods_upkeep.specs.declared.failure.Why.{Why}
 use Rattle.ods_upkeep.specs.declared.failure.Why.TheVariants.{Hidden, Path, Request}
 use Rattle.ods_upkeep.specs.declared.target.Target.{Target}
 
--- why directories alone mean no tree: none of them is there, or there is no memory to see it
+-- why only directories are no tree: none of them exists, or there is no memory to determine it
 abbrev pub AreNoneBelow : List (List ℕ) → VolumeLayout → Folder → Why → Type 0
 AreNoneBelow I L folder why = ((why ≡ Path fault.Nothing) × AreMeant I L [] (record folder { below = true }) []) ⊎ (why ≡ no_memory)
 
--- why what a path says is no tree: it says files; or no directory that it says is there
+-- why the selection of a path is no tree: it has files; or no directory of it exists
 abbrev pub IsNoTreeSaid : List (List ℕ) → VolumeLayout → Said → Why → Type 0
 IsNoTreeSaid I L (File file) why = why ≡ Request refusal.NotADirectory
 IsNoTreeSaid I L (Within folder None) why = AreNoneBelow I L folder why
 IsNoTreeSaid I L (Within folder (Some files)) why = why ≡ Request refusal.NotADirectory
 
--- why a path means no tree: it is no path, or what it says is none
+-- why a path is no tree: it is not a valid path, or its selection is none
 abbrev pub IsNoTree : List (List ℕ) → VolumeLayout → List ℕ → Why → Type 0
 IsNoTree I L path why = ((bad : BadPath) × (why ≡ Path (fault.Bad bad)) × IsBad path bad) ⊎ ((says : Said) × Says path says × IsNoTreeSaid I L says why)
 
--- why a directory that is found takes no files: it hides entries, or there is no memory to see whether it does
+-- why a found directory takes no files: it hides entries, or there is no memory to determine whether it does
 abbrev pub IsShut : Filed → FileId → Why → Type 0
 IsShut f file why = ((why ≡ Hidden) × HidesEntries f.image f.layout file.number) ⊎ (why ≡ no_memory)
 
--- why there is no directory of this name in this one, and what was done: it is found, and takes no files; or it is not found, and not made
+-- why there is no directory of this name in this one, and what was done: it is found, and takes no files; or it is not found, and not created
 abbrev pub IsNoDirectoryBelow : List ℕ → FileId → RadName → Filed → Filed → Why → Type 0
 IsNoDirectoryBelow stamp dir name old new why =
     ((file : FileId) × ((version : ℕ) × IsSeen old dir name Highest file version new × IsShut new file why))
     ⊎ ((seen : Filed) × IsUnseen old dir name Highest seen × IsUnmade None 0 stamp dir name seen new why)
 
--- why these names lead to no directory from this one, and what was done
+-- why these names reach no directory from this one, and what was done
 abbrev pub IsNoPlaceBelow : List ℕ → FileId → List RadName → Filed → Filed → Why → Type 0
 IsNoPlaceBelow stamp dir [] old new why = ⊥
 IsNoPlaceBelow stamp dir (name ∷ names) old new why =
     IsNoDirectoryBelow stamp dir name old new why ⊎ ((next : FileId) × ((mid : Filed) × IsDirectoryBelow stamp dir name old next mid × IsNoPlaceBelow stamp next names mid new why))
 
--- Why a directory of the other volume is not copied, and what was done: there is no directory for it; or its files are not read for want of memory; or not all of them are copied.
+-- Why a directory of the other volume is not copied, and what was done: there is no directory for it; or reading its files runs out of memory; or not
+-- all of them are copied.
 pub data IsDirectoryUncopied (I : List (List ℕ)) (L : VolumeLayout) (how : CopyFrom) (stamp path : List ℕ) (dir : FileId) (depth : ℕ) (directory : Directory) (old new : Filed) (failure : Failure) : Type 0 where
   unplaced : IsNoPlaceBelow stamp dir (drop depth directory.names.items) old new failure.why → HasPath failure path → IsDirectoryUncopied I L how stamp path dir depth directory old new failure
   unread : (place : FileId) → IsPlaceBelow stamp dir (drop depth directory.names.items) old place new → IsOutOfMemory failure → IsDirectoryUncopied I L how stamp path dir depth directory old new failure
   uncopied : (place : FileId) (mid : Filed) (files : List Found) → IsPlaceBelow stamp dir (drop depth directory.names.items) old place mid → AreFilesIn I L directory files
       → AreNotCopiedOver I L how (target_at place) stamp files mid new failure → IsDirectoryUncopied I L how stamp path dir depth directory old new failure
 
--- These directories are copied, one after another, up to one that is not.
+-- These directories are copied, in order, up to one that is not.
 abbrev pub StopsCopyingTree : List (List ℕ) → VolumeLayout → CopyFrom → List ℕ → List ℕ → FileId → ℕ → List Directory → Filed → Filed → Failure → Type 0
 StopsCopyingTree I L how stamp path dir depth [] old new failure = ⊥
 StopsCopyingTree I L how stamp path dir depth (d ∷ directories) old new failure =
     IsDirectoryUncopied I L how stamp path dir depth d old new failure
     ⊎ ((mid : Filed) × IsDirectoryCopied I L how stamp dir depth d old mid × StopsCopyingTree I L how stamp path dir depth directories mid new failure)
 
--- Why a tree is not copied, and what was done before: the path means none, or there is no target, and nothing was done; or one of the directories is not copied.
+-- Why a tree is not copied, and what was done before: the path selects none, or there is no target, and nothing was done; or one of the directories
+-- is not copied.
 abbrev pub IsTreeUncopied : List (List ℕ) → VolumeLayout → CopyFrom → List ℕ → List ℕ → List ℕ → Filed → Filed → Failure → Type 0
 IsTreeUncopied I L how stamp path to old new failure =
     ((new ≡ old) × IsNoTree I L path failure.why × HasPath failure path)

@@ -1,4 +1,4 @@
--- Why a new file is not made by its owner, or not entered by the user who asks, and what of it is there then.
+-- Why a new file is not made by its owner, or not entered by the requesting user, and what part of it exists then.
 use Rattle.std.specs.Prelude.{◌≡◌, ℕ, List, Option}
 use Rattle.ods_base.specs.Name.{directory_type}
 use Rattle.ods_base.specs.declared.file_id.FileId.{FileId}
@@ -14,13 +14,14 @@ use Rattle.ods_upkeep.specs.declared.asked.Placing.{Placing}
 use Rattle.ods_upkeep.specs.declared.failure.Why.{Why}
 use Rattle.ods_upkeep.specs.declared.failure.Why.TheVariants.{Request, DirectoryType}
 
--- The owner has made the file on the old volume, which is the user's again.
+-- The owner has made the file on the old volume. Afterwards the user makes the requests again.
 pub record IsFilled (placing : Placing) (owner : Uic) (heading : Heading) (attributes bytes : List ℕ) (file : FileId) (old new : Filed) : Type 0 where
   pub made : Filed
   pub stored : IsStored placing heading attributes bytes file (for_another old owner) made
   pub back : new ≡ for_another made old.user
 
--- The type of the name is DIR, or the version of the header is none, and nothing was done. Or the owner's file is not put. Or it is, and the user's request to enter it is not done.
+-- The type of the name is DIR, or the version of the header is not valid, and nothing was done. Or the owner's file is not put. Or it is, and the
+-- user's request to enter it is not done.
 pub data IsUnfiled (placing : Placing) (owner : Uic) (dir : FileId) (version : Option ℕ) (heading : Heading) (attributes bytes : List ℕ) (old new : Filed) : Why → Type 0 where
   named_as_directory : heading.name.ext ≡ directory_type → new ≡ old → IsUnfiled placing owner dir version heading attributes bytes old new DirectoryType
   no_version : ¬ IsVersionNumber heading.version → new ≡ old → IsUnfiled placing owner dir version heading attributes bytes old new (Request refusal.VersionsFull)

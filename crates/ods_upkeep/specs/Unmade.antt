@@ -1,4 +1,4 @@
--- Why mkdir makes no directory, and what it leaves then.
+-- Why mkdir makes no directory, and the result then.
 use Rattle.std.specs.Prelude.{◌≡◌, ◌⊎◌, ℕ, false, true, List, [], ◌∷◌, codes, Option, Some, None}
 use Rattle.std.specs.Borrow.{Bor}
 use Rattle.ods_base.specs.Name.{RadName}
@@ -24,7 +24,7 @@ use Rattle.ods_upkeep.specs.Refused.{HasPath, IsNotDone, IsRefusedBy, no_memory}
 use Rattle.ods_upkeep.specs.Target.{IsNoDirectory, IsNoName, IsTheDirectory}
 use Rattle.ods_upkeep.specs.Unmeant.{MeansNone}
 
--- a directory of this name is there, in some version
+-- a directory of this name exists, in some version
 abbrev pub IsThere : List (List ℕ) → VolumeLayout → Folder → List ℕ → Type 0
 IsThere I L up name = (one : Found) × ((more : List Found) × AreNamed I L [] up (directories_named name Every) None (one ∷ more))
 
@@ -32,25 +32,28 @@ IsThere I L up name = (one : Found) × ((more : List Found) × AreNamed I L [] u
 abbrev pub IsMasters : FileId → List ℕ → Type 0
 IsMasters dir name = (dir.number ≡ 4) × (name ≡ codes "000000")
 
--- Why a name in this directory is not new. The first of these that holds is said: it is the master directory's own, it is there, entries of the directory are hidden. Or there is no memory to see it.
+-- Why a name in this directory is not new. The first of these that holds is reported: it is the name of the master directory, it exists, entries of
+-- the directory are hidden. Or there is no memory to determine it.
 abbrev pub IsNotNew : List (List ℕ) → VolumeLayout → Folder → List ℕ → FileId → Why → Type 0
 IsNotNew I L up name dir why =
     ((why ≡ Request refusal.Reserved) × IsMasters dir name)
     ⊎ ((¬ IsMasters dir name) × (((why ≡ DirectoryThere) × IsThere I L up name)
     ⊎ (((why ≡ Hidden) × AreNamed I L [] up (directories_named name Every) None [] × HidesEntries I L dir.number) ⊎ (why ≡ no_memory))))
 
--- Why a name, or pattern, in a folder is no new place. The first of these that holds is said: it is a pattern, the folder is not one directory, it is no name, it is not new.
+-- Why a name, or pattern, in a folder is not a new location. The first of these that holds is reported: it is a pattern, the folder is not one
+-- directory, it is not a valid name, it is not new.
 abbrev pub IsNoPlace : List (List ℕ) → VolumeLayout → Folder → List ℕ → Why → Type 0
 IsNoPlace I L up name why =
     ((why ≡ Several) × (has_wildcard name ≡ true))
     ⊎ ((has_wildcard name ≡ false)
     × (IsNoDirectory I L up why ⊎ ((dir : FileId) × IsTheDirectory I L up dir × (IsNoName name (codes "DIR") why ⊎ IsNotNew I L up name dir why))))
 
--- why a path means no new place: it means no directory, or one that is no new place
+-- why a path is not a new location: it selects no directory, or one that is not new
 abbrev pub IsNoNewPlace : List (List ℕ) → VolumeLayout → List ℕ → Why → Type 0
 IsNoNewPlace I L path why = MeansNone path why ⊎ ((up : Folder) × ((name : List ℕ) × Means path up name × IsNoPlace I L up name why))
 
--- Why a new directory is not made, and what that leaves: its owner's Create is refused, and nothing was done; or the user's Enter is, and the file is there without an entry.
+-- Why a new directory is not made, and the result: its owner's Create is refused, and nothing was done; or the user's Enter is, and the file exists
+-- without an entry.
 abbrev pub IsUnmade : Option Uic → ℕ → List ℕ → FileId → RadName → Filed → Filed → Why → Type 0
 IsUnmade said names stamp dir name old new why = (owner : Uic) × IsOwner said old.user dir name owner
     × (((new ≡ old) × IsRefusedBy (for_another old owner) (Create name 1 (blocks_for names) stamp) why)
@@ -63,7 +66,7 @@ IsNotMade said names stamp path old new why =
     ((new ≡ old) × IsNoNewPlace old.image old.layout path why)
     ⊎ ((dir : FileId) × ((name : RadName) × IsNewPlace old.image old.layout path dir name × IsUnmade said names stamp dir name old new why))
 
--- The directories of these paths were made, one after another, up to one that is not, of which the failure tells.
+-- The directories of these paths were made, in order, up to one that is not, which the failure reports.
 abbrev pub AreNotMade : Option Uic → ℕ → List ℕ → List (Bor (List ℕ)) → Filed → Filed → Failure → Type 0
 AreNotMade said names stamp [] old new failure = ⊥
 AreNotMade said names stamp (path ∷ paths) old new failure =

@@ -24,31 +24,33 @@ use Rattle.ods_upkeep.specs.declared.failure.Why.{Why}
 use Rattle.ods_upkeep.specs.declared.failure.Why.TheVariants.{BadName, DirectoryType, Put}
 use Rattle.ods_upkeep.specs.declared.put_fault.PutFault.TheVariants.{Untyped}
 
--- Why a host file's name is none of the volume: it is no name, it has a character that is not typed, or it spells none.
+-- Why the name of a host file is not a name of the volume: it is not valid, it has a character that is not typed, or it spells none.
 pub data IsNoHostName (host : List ℕ) : Why → Type 0 where
   no_name : IsNoName host → IsNoHostName host BadName
   untyped : (c : ℕ) → ¬ IsNoName host → IsUntyped host c → IsNoHostName host (Put (Untyped c))
   unspelled : (why : Why) → ¬ IsNoName host → IsTyped host → SpellsNone (capitals (title_of host)) (capitals (type_of host)) why → IsNoHostName host why
 
--- a host file gets no name where none is said, and its own is none
+-- a host file gets no name if none is given, and its own is not valid
 abbrev pub IsNameless : Option RadName → List ℕ → Why → Type 0
 IsNameless (Some said) host why = ⊥
 IsNameless None host why = IsNoHostName host why
 
--- Why an entry does not go. A Stat shows that its file is not replaced, or is refused. Or a request is not done, of the entry to go, or then of the file that no other entry names.
+-- Why an entry is not removed. A Stat shows that its file is not replaced, or is refused. Or a request is not done, to remove the entry, or then to
+-- delete the file that no other entry names.
 abbrev pub IsNotReplaced : FileId → RadName → ℕ → FileId → List ℕ → Filed → Filed → Why → Type 0
 IsNotReplaced dir name version file before old new why =
     IsNotPlain old file new why
     ⊎ ((there : Bool) × ((known : Filed) × IsThere old file there known
     × StopsAt known (Remove dir name (Exact version) ∷ file_left there (counts_left there (slice_index before) file) file) new why))
 
--- why no room is made for a name where files are replaced: an entry has it, and does not go
+-- why no room is made for a name if files are replaced: an entry has it, and is not removed
 abbrev pub IsNoRoom : FileId → RadName → Option ℕ → Option (List ℕ) → Filed → Filed → Why → Type 0
 IsNoRoom dir name said None old new why = ⊥
 IsNoRoom dir name said (Some before) old new why =
     (file : FileId) × ((version : ℕ) × ((seen : Filed) × IsSeen old dir name (pick_for said) file version seen × IsNotReplaced dir name version file before seen new why))
 
--- The new file can be made. There is room for it. The version under which it is entered is the one that is free or said, if one is, and that of its ident is known.
+-- The new file can be made. There is room for it. The version under which it is entered is the one that is free or given, if there is one, and the
+-- version of its ident is known.
 pub record IsReady (p : InPut) (name : RadName) (old : Filed) (under : Option ℕ) (version : ℕ) (new : Filed) : Type 0 where
   pub free : Option ℕ
   pub left : Option (List ℕ)
@@ -57,11 +59,12 @@ pub record IsReady (p : InPut) (name : RadName) (old : Filed) (under : Option �
   pub entered : under ≡ option_or free p.target.version
   pub next : IsVersionFor p.highest mid p.target.directory name under version new
 
--- what the header of the new file says
+-- the contents of the header of the new file
 abbrev pub heading_in : InPut → RadName → ℕ → Heading
 heading_in p name version = record { name = name; version = version; stamp = p.stamp }
 
--- Why what is written is not put under a name. There is no room; or the file is not made or not entered. Or all of this is done, and there is no memory to note its version.
+-- Why the written bytes are not put under a name. There is no room; or the file is not made or not entered. Or all of this is done, and there is no
+-- memory to record its version.
 pub data IsNotStored (p : InPut) (name : RadName) (attributes bytes : List ℕ) (old new : Filed) : Why → Type 0 where
   no_room : (why : Why) → IsNoRoom p.target.directory name p.target.version p.names old new why → IsNotStored p name attributes bytes old new why
   unfiled : (why : Why) (under : Option ℕ) (version : ℕ) (mid : Filed) → IsReady p name old under version mid
@@ -75,7 +78,8 @@ pub record MayBeCalled (p : InPut) (host : List ℕ) (name : RadName) : Type 0 w
   pub named : IsNameFor p.target.name host name
   pub plain : name.ext ≢ directory_type
 
--- Why a host file is not put. It has no name, or one of the type DIR. Or its bytes are not written in the form. Or something is to be remarked, and there is no memory for it. In each of these cases nothing was done. Or else what is written is not put under its name.
+-- Why a host file is not put. It has no name, or one of the type DIR. Or its bytes are not written in the form. Or there is a remark, and no memory for
+-- it. In each of these cases nothing was done. Or the written bytes are not put under the name.
 pub data IsNotPut (p : InPut) (host bytes : List ℕ) (old new : Filed) : Why → Type 0 where
   nameless : (why : Why) → IsNameless p.target.name host why → new ≡ old → IsNotPut p host bytes old new why
   of_directory : (name : RadName) → IsNameFor p.target.name host name → name.ext ≡ directory_type → new ≡ old → IsNotPut p host bytes old new DirectoryType

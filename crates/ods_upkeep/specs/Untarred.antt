@@ -1,4 +1,4 @@
--- What untar makes of a file of an archive, and why it makes none.
+-- The result of untar for a file of an archive, and why it is not put.
 use Rattle.std.specs.Prelude.{◌≡◌, ◌⊎◌, ℕ, ◌%◌, ◌==◌, true, false, if◌then◌else◌, MatchBool, List, [], length, replicate, Option, Some, None}
 use Rattle.ods_text.specs.Cuts.{cut_of}
 use Rattle.ods_text.specs.Numbers.{IsSmallNumber}
@@ -21,11 +21,11 @@ use Rattle.ods_upkeep.specs.declared.failure.Why.{Why}
 use Rattle.ods_upkeep.specs.declared.failure.Why.TheVariants.{BadName, Request, Several}
 use Rattle.ods_upkeep.specs.declared.untarring.Packed.{Packed}
 
--- version 0 is none: the next one is meant
+-- version 0 is no version: the next one applies
 abbrev pub unless_zero : ℕ → Option ℕ
 unless_zero n = if n == 0 then None else Some n
 
--- What the last part of a path says: a name as of a host file, and behind a `;` its version in decimal.
+-- The meaning of the last part of a path: a name as of a host file, and after a `;` its version in decimal.
 abbrev pub SaysFileBy : Option (List ℕ × List ℕ) → List ℕ → RadName → Option ℕ → Type 0
 SaysFileBy None last name version = IsHostName last name × (version ≡ None)
 SaysFileBy (Some cut) last name version = IsHostName cut.0 name × ((n : ℕ) × IsSmallNumber cut.1 n × (version ≡ unless_zero n))
@@ -33,7 +33,7 @@ SaysFileBy (Some cut) last name version = IsHostName cut.0 name × ((n : ℕ) ×
 abbrev pub SaysFile : List ℕ → RadName → Option ℕ → Type 0
 SaysFile last name version = SaysFileBy (cut_of 59 last) last name version
 
--- why it says no file
+-- why it specifies no file
 abbrev pub SaysNoFileBy : Option (List ℕ × List ℕ) → List ℕ → Why → Type 0
 SaysNoFileBy None last why = IsNoHostName last why
 SaysNoFileBy (Some cut) last why = ((why ≡ BadName) × ((n : ℕ) → IsSmallNumber cut.1 n → ⊥)) ⊎ IsNoHostName cut.0 why
@@ -41,7 +41,7 @@ SaysNoFileBy (Some cut) last why = ((why ≡ BadName) × ((n : ℕ) → IsSmallN
 abbrev pub SaysNoFile : List ℕ → Why → Type 0
 SaysNoFile last why = SaysNoFileBy (cut_of 59 last) last why
 
--- attributes of zeros stay zeros where the bytes are whole blocks, since then all blocks count
+-- attributes of zeros stay zeros if the bytes are whole blocks, since then all blocks count
 abbrev pub zeros_or : ℕ → List ℕ → List ℕ
 zeros_or size attributes = if size % 512 == 0 then replicate 32 0 else attributes
 
@@ -49,8 +49,8 @@ zeros_or size attributes = if size % 512 == 0 then replicate 32 0 else attribute
 abbrev pub IsUnknown : List ℕ → List ℕ → List ℕ → Type 0
 IsUnknown bytes attributes stored = (own : List ℕ) × IsWritten form.Binary None bytes own stored × (attributes ≡ zeros_or (length bytes) own)
 
--- These attributes and these bytes are written of a packed file. Where its records say attributes, they are those with the end behind the bytes, which are whole records where the
--- attributes say records. Without them they are those that put gives.
+-- These attributes and these bytes are written of a packed file. If its records specify attributes, they are these with the end after the bytes,
+-- which are whole records if the attributes specify records. Without them they are the attributes of put.
 abbrev pub IsUnpacked : Option (List ℕ) → List ℕ → List ℕ → List ℕ → Type 0
 IsUnpacked None bytes attributes stored = IsWritten form.ByContents None bytes attributes stored
 IsUnpacked (Some own) bytes attributes stored = MatchBool (are_zeros own) (IsUnknown bytes attributes stored) (IsWritten form.Binary (Some own) bytes attributes stored)
@@ -60,8 +60,8 @@ abbrev pub IsNotUnpacked : Option (List ℕ) → List ℕ → Why → Type 0
 IsNotUnpacked None bytes why = IsUnwritten form.ByContents None bytes why
 IsNotUnpacked (Some own) bytes why = MatchBool (are_zeros own) (IsUnwritten form.Binary None bytes why) (IsUnwritten form.Binary (Some own) bytes why)
 
--- A packed file with this name, these attributes and these bytes is in a directory: the user has made it, with the time of its member, and entered it under the version that is said, or the next one. Then it
--- has got the owner and the protection that its records say.
+-- A packed file with this name, these attributes and these bytes is in a directory: the user has made it, with the time of its member, and entered it
+-- under the given version, or the next one. Then it has received the owner and the protection in its records.
 pub record IsFiled (packed : Packed) (dir : FileId) (name : RadName) (said : Option ℕ) (attributes stored : List ℕ) (old new : Filed) : Type 0 where
   -- the version of its ident, and the volume when it is known
   pub version : ℕ
@@ -80,7 +80,7 @@ pub data IsNotFiled (packed : Packed) (dir : FileId) (name : RadName) (said : Op
       → IsMadeFor packed.placing seen.user dir said (record { name = name; version = version; stamp = packed.stamp }) attributes stored file seen new → IsWhyNotGiven new file reason
       → IsNotFiled packed dir name said attributes stored old new (Request reason)
 
--- A file of an archive has been put. The directories on its way are there, and in the last of them it is, under the name and the version that its path says.
+-- A file of an archive has been put. The directories on its way exist, and it is in the last of them, under the name and the version in its path.
 pub record IsUntarred (stamp : List ℕ) (packed : Packed) (old new : Filed) : Type 0 where
   pub plain : has_wildcard packed.path.now ≡ false
   pub parts : List (List ℕ)
@@ -92,7 +92,7 @@ pub record IsUntarred (stamp : List ℕ) (packed : Packed) (old new : Filed) : T
   pub attributes : List ℕ
   pub stored : List ℕ
   pub unpacked : IsUnpacked packed.attributes packed.bytes.now attributes stored
-  -- the way to its directory, and the volume when all directories on it are there
+  -- the way to its directory, and the volume when all directories on it exist
   pub way : List ℕ
   pub ready : Filed
   pub made : IsWay stamp parts [] old way ready
@@ -100,8 +100,8 @@ pub record IsUntarred (stamp : List ℕ) (packed : Packed) (old new : Filed) : T
   pub takes : IsOpen ready.image ready.layout (path_of_way way) dir
   pub filed : IsFiled packed dir name said attributes stored ready new
 
--- Why it is not put, and what was done for it. Its path has wildcards, or names no file, or its bytes are not written: nothing was done. Or a directory on its way is not there, and cannot be made.
--- Or that to which they lead takes no names, or it does not take the file.
+-- Why it is not put, and what was done for it. Its path has wildcards, or names no file, or its bytes are not written: nothing was done. Or a
+-- directory on its way does not exist, and cannot be created. Or the directory that they reach takes no names, or it does not take the file.
 pub data IsNotUntarred (stamp : List ℕ) (packed : Packed) (old new : Filed) : Why → Type 0 where
   pattern : has_wildcard packed.path.now ≡ true → new ≡ old → IsNotUntarred stamp packed old new Several
   nameless : (why : Why) (parts : List (List ℕ)) (last : List ℕ) → IsParted packed.path.now parts last → SaysNoFile last why → new ≡ old → IsNotUntarred stamp packed old new why

@@ -10,11 +10,11 @@ use Rattle.ods_base.specs.declared.listed.Listed.{Listed}
 use Rattle.ods_space.specs.Layout.{VolumeLayout}
 use Rattle.ods_shell.specs.Found.{AreLinesOf}
 
--- by what it is told whether two names are one: the type word, and the three name words
+-- the key that decides whether two names are one: the type word, and the three name words
 abbrev pub key_of : RadName → List ℕ
 key_of name = name.ext ∷ name.words
 
--- what is known of names: of each key a version
+-- the known facts of names: a version for each key
 abbrev pub Noted : Type 0
 Noted = List (List ℕ × ℕ)
 
@@ -22,7 +22,7 @@ Noted = List (List ℕ × ℕ)
 abbrev pub version_in : Noted → RadName → Option ℕ
 version_in noted name = lookup (is_at (slice_cmp nat_cmp (key_of name))) noted
 
--- the highest version that these entries have of a name; none where no entry has it
+-- the highest version that these entries have of a name; none if no entry has it
 abbrev pub IsHighestOf : List Listed → RadName → Option ℕ → Type 0
 IsHighestOf entries name None = (e : Listed) → Contains entries e → e.name ≢ name
 IsHighestOf entries name (Some version) =
@@ -32,7 +32,7 @@ IsHighestOf entries name (Some version) =
 abbrev pub AreHighestOf : List Listed → (RadName → Option ℕ) → Type 0
 AreHighestOf entries highest = (name : RadName) → IsHighestOf entries name (highest name)
 
--- for each name the highest version that directory n has of it; none where n is no directory
+-- for each name the highest version that directory n has of it; none if n is not a directory
 abbrev pub AreHighest : List (List ℕ) → VolumeLayout → ℕ → Noted → Type 0
 AreHighest I L n noted = (entries : List Listed) × AreLinesOf I L n entries × AreHighestOf entries (version_in noted)
 
@@ -41,7 +41,7 @@ pub record IsNoted (old : Noted) (name : RadName) (version : ℕ) (new : Noted) 
   pub here : version_in new name ≡ Some (max (unwrap_or (version_in old name) 0) version)
   pub others : (other : RadName) → other ≢ name → version_in new other ≡ version_in old other
 
--- the version behind the highest one, which a word can say; 1 where there is none
+-- the version after the highest one, which a word can hold; 1 if there is none
 abbrev pub behind : Option ℕ → ℕ
 behind None = 1
 behind (Some version) = min (version + 1) 65535

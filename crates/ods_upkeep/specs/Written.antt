@@ -1,4 +1,4 @@
--- What put writes of a host file, attributes and bytes, and why it writes none.
+-- The attributes and bytes that put writes of a host file, and why it writes none.
 use Rattle.std.specs.Prelude.{◌≡◌, ◌⊎◌, ◌≤◌, ◌<◌, ◌*◌, ◌^◌, ℕ, true, List, ◌++◌, length, replicate, Option, Some, None, Vec}
 use Rattle.std.specs.List.{list_all}
 use Rattle.std.specs.declared.alloc.Global.{Global}
@@ -17,7 +17,8 @@ use Rattle.ods_upkeep.specs.declared.failure.Why.TheVariants.{Put, Request, Text
 use Rattle.ods_upkeep.specs.declared.put_fault.PutFault.{PutFault}
 use Rattle.ods_upkeep.specs.declared.written.Written.{Written}
 
--- Bytes become records where a text is asked for. Where nothing is said they do if they are a text that comes back as it was. Where they are to be like a file, that file decides: it has variable records.
+-- Bytes become records if a text is requested. If nothing is specified they do if they are a text that comes back unchanged. With a model file, that
+-- file decides: it has variable records.
 abbrev pub ArePutAsText : PutForm → Option (List ℕ) → List ℕ → Type 0
 ArePutAsText asked (Some like) bytes = kind_in like ≡ Some Variable
 ArePutAsText form.Text None bytes = Unit {0}
@@ -25,12 +26,12 @@ ArePutAsText form.ByContents None bytes = (list_all is_text_byte bytes ≡ true)
 ArePutAsText form.Binary None bytes = ⊥
 ArePutAsText (form.Said four) None bytes = ⊥
 
--- The attributes of records. Those that are to be like a file get its form, and the greater record size of both.
+-- The attributes of records. With a model file, they get its form, and the greater record size of both.
 abbrev pub records_like : Option (List ℕ) → List ℕ → List ℕ
 records_like None own = own
 records_like (Some like) own = like_greater own like
 
--- The attributes of bytes. Those that are to be like a file get its form and its record size.
+-- The attributes of bytes. With a model file, they get its form and its record size.
 abbrev pub bytes_like : Option (List ℕ) → List ℕ → List ℕ
 bytes_like None own = own
 bytes_like (Some like) own = like_those own like
@@ -42,25 +43,25 @@ pub record AreRecords (like : Option (List ℕ)) (bytes attributes written : Lis
   pub small : length written < 512 * 2 ^ 20
   pub are : attributes ≡ records_like like (attributes_of 2 2 longest (length written))
 
--- The bytes are written as they are. F.RTYP is 1, and F.RSIZ 512.
+-- The bytes are written unchanged. F.RTYP is 1, and F.RSIZ 512.
 pub record AreBytes (like : Option (List ℕ)) (bytes attributes written : List ℕ) : Type 0 where
   pub same : written ≡ bytes
   pub small : length bytes < 512 * 2 ^ 20
   pub are : attributes ≡ bytes_like like (attributes_of 1 0 512 (length bytes))
 
--- The bytes are written as they are, with attributes that they fit. The end of file is behind them.
+-- The bytes are written unchanged, with attributes that they fit. The end of file is after them.
 pub record AreInForm (own bytes attributes written : List ℕ) : Type 0 where
   pub same : written ≡ bytes
   pub fit : FitsForm own bytes
   pub small : length bytes < 512 * 2 ^ 20
   pub are : attributes ≡ with_end own (length bytes)
 
--- as records, or as they are
+-- as records, or unchanged
 abbrev pub IsByContents : PutForm → Option (List ℕ) → List ℕ → List ℕ → List ℕ → Type 0
 IsByContents asked like bytes attributes written =
     (ArePutAsText asked like bytes × AreRecords like bytes attributes written) ⊎ ((¬ ArePutAsText asked like bytes) × AreBytes like bytes attributes written)
 
--- These attributes and these bytes are written of a host file: in the form that is asked for, or like another file. A form of four bytes has zeros for all else.
+-- These attributes and these bytes are written of a host file: in the requested form, or like another file. A form of four bytes has zeros otherwise.
 abbrev pub IsWritten : PutForm → Option (List ℕ) → List ℕ → List ℕ → List ℕ → Type 0
 IsWritten (form.Said four) like bytes attributes written = AreInForm (four ++ replicate 28 0) bytes attributes written
 IsWritten form.Binary (Some own) bytes attributes written = AreInForm own bytes attributes written
@@ -76,7 +77,7 @@ records_or (Some records) own = records.items
 abbrev pub bytes_of : Written → List ℕ
 bytes_of w = records_or w.records w.host.now
 
--- no file has so many bytes
+-- no file has this number of bytes
 abbrev pub IsTooLong : ℕ → Why → Type 0
 IsTooLong count why = (why ≡ Request VolumeFull) × (512 * 2 ^ 20 ≤ count)
 
@@ -90,7 +91,7 @@ AreNoRecords bytes why =
 abbrev pub AreNotInForm : List ℕ → List ℕ → Why → Type 0
 AreNotInForm own bytes why = ((fault : PutFault) × (why ≡ Put fault) × IsUnfit own bytes fault) ⊎ (FitsForm own bytes × IsTooLong (length bytes) why)
 
--- why they are not written as records, or as they are
+-- why they are not written as records, or unchanged
 abbrev pub IsNotByContents : PutForm → Option (List ℕ) → List ℕ → Why → Type 0
 IsNotByContents asked like bytes why = (ArePutAsText asked like bytes × AreNoRecords bytes why) ⊎ ((¬ ArePutAsText asked like bytes) × IsTooLong (length bytes) why)
 

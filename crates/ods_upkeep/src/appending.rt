@@ -1,4 +1,4 @@
-//! `append` puts bytes of the host behind the end of a file.
+//! `append` writes bytes of the host past the end of a file.
 ghost use Rattle.std.specs.Prelude.{◌≡◌, ◌≤◌, ◌⊎◌, ◌+◌, ◌*◌, ◌-◌, ◌^◌, ◌==◌, ◌<◌, ◌++◌, if◌then◌else◌, [], ◌∷◌, length, replicate, IfErr, IfOk, MatchResult, OnOk};
 ghost use Rattle.ods_filing.specs.Led.{IsLed};
 ghost use Rattle.ods_filing.specs.Put.{block_count, block_with};
@@ -31,7 +31,7 @@ use std::alloc::{AllocError, Global};
 /// How many blocks one request asks for at most.
 const MOST: usize = 65_535;
 
-/// The one file that a path names, where bytes can go behind its end.
+/// Returns the one file that a path selects, if bytes can be appended to it.
 pub fn open_end(alloc: Global, volume: &Mounted, path: &str) -> Result<Facts, Failure>
     ensures { MatchResult result (IsOpened volume.now.image volume.now.layout path.now)
         (λ failure. HasPath failure path.now × IsNotOpened volume.now.image volume.now.layout path.now failure.why) }
@@ -42,7 +42,7 @@ pub fn open_end(alloc: Global, volume: &Mounted, path: &str) -> Result<Facts, Fa
     }
 }
 
-/// How many bytes a volume has room for behind the end of a file.
+/// Returns the number of bytes that the volume has room for past the end of a file.
 pub fn room_behind(filing: &Filing, facts: &Facts) -> u64
     ensures { result ≡ 512 * (length (free_blocks filing.now.image filing.now.layout) + facts.now.blocks) - facts.now.bytes }
 {
@@ -50,7 +50,8 @@ pub fn room_behind(filing: &Filing, facts: &Facts) -> u64
     (512 * blocks).saturating_sub(facts.bytes)
 }
 
-/// Puts bytes of the host behind the end of a file: as records where it has such, else as they are. Says whether a last line without LF became a record.
+/// Appends bytes of the host to a file: as records if it has variable records, otherwise unchanged. Returns whether a last line without LF became a
+/// record.
 pub fn append_bytes(
     alloc: Global,
     filing: &mut Filing,

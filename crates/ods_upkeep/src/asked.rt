@@ -1,27 +1,27 @@
-//! What a command is asked to do.
-/// In which form the bytes of a host file are put.
+//! The options of a command.
+/// The form in which the bytes of a host file are put.
 #[derive(Clone, Copy, Debug, PartialEq, Eq)]
 pub enum PutForm {
-    /// As records where the same bytes come back, else as they are.
+    /// As records if the same bytes come back, otherwise unchanged.
     ByContents,
     /// As records of variable length, each a line.
     Text,
-    /// As they are, in records of 512 bytes, or with the attributes of the file that is said to be like.
+    /// Unchanged, in records of 512 bytes, or with the attributes of the file given as a model.
     Binary,
-    /// As they are, with these first four bytes of attributes: F.RTYP, F.RATT and F.RSIZ.
+    /// Unchanged, with these first four bytes of attributes: F.RTYP, F.RATT and F.RSIZ.
     Said([u8; 4]),
 }
 
-/// Where the blocks of a new file stand.
+/// Where the blocks of a new file are allocated.
 #[derive(Clone, Copy, Debug, PartialEq, Eq)]
 pub enum Placing {
-    /// Wherever blocks are free.
+    /// In any free blocks.
     Anywhere,
-    /// One behind another, in the lowest run of free blocks that is long enough. The header says that the file is contiguous, where it has any block.
+    /// Consecutively, in the lowest run of free blocks that is long enough. The header marks the file as contiguous, if it has any block.
     InOnePiece,
 }
 
-/// What is put: the last part of a host file's name, or `-`, and its bytes.
+/// The host file to put: the last part of its name, or `-`, and its bytes.
 #[derive(Clone, Copy)]
 pub struct HostFile<'a> {
     pub name: &'a str,
@@ -31,17 +31,17 @@ pub struct HostFile<'a> {
 /// How names are removed.
 #[derive(Clone, Copy, Debug, PartialEq, Eq)]
 pub struct Removal {
-    /// The entry goes, and its file stays.
+    /// Whether only the entry is removed, and its file stays.
     pub entry_alone: bool,
-    /// Where no version is said, the highest is meant; else that is refused.
+    /// Whether a path without a version selects the highest. If false, such a path is refused.
     pub newest: bool,
 }
 
-/// How files of another volume are copied.
+/// The options for copying files of another volume.
 #[derive(Clone, Copy, Debug, PartialEq, Eq)]
 pub struct CopyFrom {
-    /// Where the blocks of the copies stand. Where it is not said, those of a contiguous file stand in one piece, and others anywhere.
+    /// Where the blocks of the copies are allocated. Without a value, the blocks of a contiguous file are in one piece, and other blocks anywhere.
     pub placing: Option<Placing>,
-    /// Whether each copy gets the next version of its name, and not the file's own.
+    /// Whether each copy gets the next version of its name, instead of the version of the file.
     pub next: bool,
 }

@@ -1,4 +1,4 @@
-//! Requests of a command: the first one that is refused ends it.
+//! The requests of a command. The first refused request ends it.
 ghost use Rattle.std.specs.Prelude.{◌≡◌, ◌≢◌, ℕ, IfErr, IfOk, OnErr, OnOk};
 ghost use Rattle.ods_base.specs.Name.{directory_type};
 ghost use Rattle.ods_state.specs.Outcome.{CanBeAsked, IsVersionNumber};
@@ -20,7 +20,7 @@ use ods_request::{Answer, Refusal, Request};
 use ods_shell::space_of;
 use std::alloc::Global;
 
-/// Makes a request.
+/// Makes a request and returns its answer. A refused request leaves the volume unchanged.
 pub(crate) fn make(filing: &mut Filing, request: Request) -> Result<Answer, Why>
     requires { CanBeAsked request }
     ensures done { IfOk result (λ a. IsDone filing.old request a filing.new) }
@@ -34,7 +34,7 @@ pub(crate) fn make(filing: &mut Filing, request: Request) -> Result<Answer, Why>
     }
 }
 
-/// Makes a request whose answer is not wanted.
+/// Makes a request and drops its answer.
 pub(crate) fn obey(filing: &mut Filing, request: Request) -> Result<(), Why>
     requires { CanBeAsked request }
     ensures done { OnOk result (IsObeyed filing.old request filing.new) }
@@ -46,7 +46,7 @@ pub(crate) fn obey(filing: &mut Filing, request: Request) -> Result<(), Why>
     Ok(())
 }
 
-/// Enters a file in a directory. Where a version is given that is not 1 to 32,767, it is not asked for.
+/// Enters a file in a directory. A given version outside 1 to 32,767 is refused with `VersionsFull`, without a request.
 pub(crate) fn enter(
     filing: &mut Filing,
     dir: FileId,
@@ -75,7 +75,7 @@ pub(crate) fn enter(
     )
 }
 
-/// Removes this very entry.
+/// Removes exactly this entry.
 pub(crate) fn remove(filing: &mut Filing, dir: FileId, name: Name, version: u16) -> Result<(), Why>
     ensures done { OnOk result (IsObeyed filing.old (Request.Remove dir name (Pick.Exact version)) filing.new) }
     ensures asked { IsAsked filing.old (Request.Remove dir name (Pick.Exact version)) filing.new }
@@ -140,7 +140,7 @@ fn find_place(filing: &Filing, bytes: &[u8]) -> Result<(), Why>
     Ok(())
 }
 
-/// Puts a new file, which its owner makes, and the user who asks enters: under this version, or the next one. Its ident has its own version.
+/// Creates a new file as its owner, and enters it as the requesting user: under this version, or the next one. Its ident has its own version.
 pub(crate) fn put_new(
     alloc: Global,
     filing: &mut Filing,

@@ -11,7 +11,8 @@ use ods_base::MAX_BYTES;
 use ods_records::{binary_attributes, end_of_file, record_size};
 use ods_request::Refusal;
 
-/// These attributes with the end of file behind so many bytes: F.HIBK, F.EFBK and F.FFBY are set.
+/// Returns these attributes with the end of file after `bytes` bytes, which sets F.HIBK, F.EFBK and F.FFBY. Fails with `VolumeFull` if no volume has
+/// room for them.
 pub(crate) fn ending_at(attributes: [u8; 32], bytes: u64) -> Result<[u8; 32], Why>
     ensures ok { IfOk result (λ new. new ≡ with_end attributes bytes) }
     ensures err { IfErr result (λ why. (why ≡ Why.Request Refusal.VolumeFull) × (MAX_BYTES ≤ bytes)) }
@@ -25,8 +26,8 @@ pub(crate) fn ending_at(attributes: [u8; 32], bytes: u64) -> Result<[u8; 32], Wh
     Ok(new)
 }
 
-/// These attributes for a file of so many blocks: F.HIBK is their count, and an end of file behind them is theirs. Attributes of zeros, by which all
-/// blocks count, stay.
+/// Returns these attributes for a file of `blocks` blocks: F.HIBK is their count, and an end of file past them becomes their end. Attributes of
+/// zeros, with which all blocks count, stay. Fails with `VolumeFull` if no volume has room for the blocks.
 pub(crate) fn true_for(attributes: [u8; 32], blocks: u32) -> Result<[u8; 32], Why>
     ensures ok { IfOk result (λ new. new ≡ true_attributes attributes blocks) }
     ensures err { IfErr result (λ why. (why ≡ Why.Request Refusal.VolumeFull) × (MAX_BYTES ≤ 512 * blocks)) }
@@ -44,14 +45,14 @@ pub(crate) fn true_for(attributes: [u8; 32], blocks: u32) -> Result<[u8; 32], Wh
     Ok(new)
 }
 
-/// Whether nothing was ever written into the attributes.
+/// Returns whether the attributes were never written: all bytes are zero.
 pub(crate) fn are_zeros(attributes: &[u8; 32]) -> bool
     ensures { result ≡ all_zeros attributes.now }
 {
     attributes.iter().all(|byte| *byte == 0)
 }
 
-/// These attributes with the record type, the record attributes and the record size of others.
+/// Returns these attributes with the record type, the record attributes and the record size of `other`.
 pub(crate) fn like(attributes: [u8; 32], other: &[u8; 32]) -> [u8; 32]
     ensures { result ≡ like_those attributes other.now }
 {
@@ -60,7 +61,7 @@ pub(crate) fn like(attributes: [u8; 32], other: &[u8; 32]) -> [u8; 32]
     new
 }
 
-/// These attributes with the record type and the record attributes of others, and the greater record size of both.
+/// Returns these attributes with the record type and the record attributes of `other`, and the greater record size of both.
 pub(crate) fn like_greater(attributes: [u8; 32], other: &[u8; 32]) -> [u8; 32]
     ensures { result ≡ like_the_greater attributes other.now }
 {
@@ -72,7 +73,7 @@ pub(crate) fn like_greater(attributes: [u8; 32], other: &[u8; 32]) -> [u8; 32]
     new
 }
 
-/// Attributes whose first four bytes are these, and all else zeros.
+/// Returns attributes with these first four bytes, and zeros otherwise.
 pub(crate) fn attributes_of_form(form: [u8; 4]) -> [u8; 32]
     ensures { result ≡ form ++ replicate 28 0 }
 {

@@ -1,4 +1,4 @@
-//! `cp`: files are made that have the blocks and the attributes of others.
+//! `cp`: creates files with the blocks and the attributes of others.
 ghost use Rattle.std.specs.Prelude.{◌≡◌, IfErr, IfOk, OnOk, Some};
 ghost use Rattle.ods_base.specs.Name.{RadName, Spells};
 ghost use Rattle.ods_base.specs.declared.name.Pick.{Pick};
@@ -30,8 +30,8 @@ use ods_shell::{Alone, Facts, Found, Kind, PathFault, Unsaid};
 use ods_space::{ChainFault, Disk};
 use std::alloc::Global;
 
-/// Copies files to a directory that is there, where they keep their names, or one to a name: all their blocks, and their attributes. A name gets its
-/// next version where none is said. The blocks of the copies stand as `placing` says.
+/// Copies files to an existing directory, where they keep their names, or one file to a name: all their blocks, and their attributes. A name without
+/// a version gets its next version. `placing` determines where the blocks of the copies are allocated.
 pub fn copy_files(
     alloc: Global,
     filing: &mut Filing,
@@ -58,7 +58,7 @@ pub fn copy_files(
     copy_all(alloc, filing, placing, &all, &target, stamp)
 }
 
-/// Why one of these files is not copied to this target, the first one, as far as it can be seen before.
+/// Checks that each of these files can be copied to this target, as far as it can be determined before. The failure names the first file that cannot.
 pub(crate) fn check_all(
     alloc: Global,
     all: &[Found],
@@ -97,7 +97,7 @@ fn copy_all(
     Ok(())
 }
 
-/// What is known of the file, and the name of its copy, where this user may copy it to this target.
+/// Returns the facts of a file, and the name of its copy, if this user may copy it to this target.
 pub(crate) fn check(found: &Found, target: &Target, user: Uic) -> Result<(Facts, Name), Why>
     ensures ok { IfOk result (λ r. IsCopyable user target.now found.now r.0 r.1) }
     ensures err { IfErr result (IsUncopyable user target.now found.now) }
@@ -177,7 +177,7 @@ fn copy(
     make_copy(alloc, filing, placing, target, name, stamp, &facts, &bytes)
 }
 
-/// Makes a copy of a file of which this is known, with these bytes, and enters it in the directory of the target under this name.
+/// Makes a copy of a file with these facts and bytes, and enters it in the directory of the target under this name.
 pub(crate) fn make_copy(
     alloc: Global,
     filing: &mut Filing,
@@ -223,7 +223,7 @@ fn all_bytes(alloc: Global, filing: &Filing, file: FileId) -> Result<Vec<u8>, Wh
     bytes_on(alloc, &disk, file)
 }
 
-/// The same of a file on a volume that may be one that is refused.
+/// Returns the bytes of a file on a volume that a mount may refuse.
 pub(crate) fn bytes_on(alloc: Global, disk: &Disk<'_>, file: FileId) -> Result<Vec<u8>, Why>
     requires { on FindsFiles disk.now }
     ensures ok { IfOk result (λ bytes. (body : Body) × on HasBody disk.now file.number body × (bytes_in Form.Raw body ≡ Some bytes.items)) }
@@ -240,7 +240,7 @@ pub(crate) fn bytes_on(alloc: Global, disk: &Disk<'_>, file: FileId) -> Result<V
     }
 }
 
-/// Why the bytes of a file are not read.
+/// Returns why the bytes of a file are not read.
 pub(crate) fn why_unread(fault: FileFault) -> Why
     ensures { result ≡ why_for fault }
 {

@@ -1,4 +1,4 @@
-//! `cp --from`: files of another volume, which may be one that is refused, are copied whole into this one.
+//! `cp --from`: copies whole files of another volume, which a mount may refuse, into this one.
 ghost use Rattle.std.specs.Prelude.{◌≡◌, [], true, IfErr, MatchResult, OnOk, Some};
 ghost use Rattle.std.specs.List.{All};
 ghost use Rattle.ods_filing.specs.Led.{IsLed};
@@ -23,9 +23,9 @@ use ods_shell::{Alone, Facts, Found, Kind, Unsaid, find_path, have_twins};
 use ods_space::Disk;
 use std::alloc::Global;
 
-/// Copies files of another volume to a directory of this one, or one to a name there: all their blocks, their attributes, and their dates of creation.
-/// This stamp stands for a date that is none. Directories and the other volume's own files are passed over, and refused where nothing else is found. A path
-/// that finds two entries of one directory with one name and version is refused.
+/// Copies files of another volume to a directory of this one, or one file to a name there: all their blocks, their attributes, and their dates of
+/// creation. `stamp` replaces a date that is not valid. Directories and the other volume's own files are passed over, and refused if nothing else is
+/// found. A path that finds two entries of one directory with one name and version is refused.
 pub fn copy_from(
     alloc: Global,
     filing: &mut Filing,
@@ -48,7 +48,7 @@ pub fn copy_from(
     copy_each(alloc, filing, other, &how, &files, &target, stamp)
 }
 
-/// Copies these files of the other volume, where each of them may be copied.
+/// Copies these files of the other volume, if each of them may be copied.
 pub(crate) fn copy_each(
     alloc: Global,
     filing: &mut Filing,

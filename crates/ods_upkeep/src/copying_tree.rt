@@ -1,4 +1,4 @@
-//! `cp --from -r`: the files in a directory of another volume and below it are copied whole into a directory of this one, and below it.
+//! `cp --from -r`: copies the whole files in a directory of another volume and below it into a directory of this one, and below it.
 ghost use Rattle.std.specs.Prelude.{◌≡◌, ◌≢◌, ◌∷◌, ◌++◌, ◌⊎◌, [], List, None, drop, true, IfErr, IfOk, MatchResult, OnOk, if◌then◌else◌};
 ghost use Rattle.ods_paths.specs.{Paths.Within, Views.folder as said_folder, Views.said, Views.said_files as said_some};
 ghost use Rattle.ods_space.specs.Files.{FindsFiles};
@@ -30,8 +30,9 @@ use ods_shell::{Directory, Found, FoundLines, PathFault, file_at, find_open, lin
 use ods_space::Disk;
 use std::alloc::{AllocError, Global};
 
-/// Copies the files in the directories that a path says on another volume, and below them, to a directory of this volume and below it. Each directory
-/// below has one of its name here, which is made where it is not there. Directories and the other volume's own files are no files that are copied.
+/// Copies the files in the directories that a path selects on another volume, and below them, to a directory of this volume and below it. Each
+/// directory below has one of its name here, which is created if it does not exist. Directories and the other volume's own files are not copied as
+/// files.
 pub fn copy_tree_from(
     alloc: Global,
     filing: &mut Filing,
@@ -196,7 +197,7 @@ fn names_behind(names: &[Name], depth: usize) -> &[Name]
     &names[depth..]
 }
 
-/// The directory to which these names lead from this one. Those that are not there are made.
+/// Returns the directory that these names reach from this one. Directories that do not exist are created.
 pub(crate) fn place_below(
     alloc: Global,
     filing: &mut Filing,

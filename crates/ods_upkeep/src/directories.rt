@@ -1,4 +1,4 @@
-//! `mkdir` and `rmdir`: directories are made and removed.
+//! `mkdir` and `rmdir`: create and remove directories.
 ghost use Rattle.std.specs.Prelude.{◌≡◌, ◌≢◌, ◌↔◌, false, [], codes, IsTrue, Some, None, IfOk, IfErr, MatchBool, MatchResult, OnOk};
 ghost use Rattle.std.specs.List.{All};
 ghost use Rattle.ods_filing.specs.{Filed.IsDone, Led.IsLed};
@@ -26,8 +26,8 @@ use ods_shell::{Found, Kind, PathFault};
 use ods_text::is_text;
 use std::alloc::Global;
 
-/// Makes directories, each with room for so many names, or one block, and enters them under version 1, one after another: a later one may lie
-/// below an earlier one. Each is its owner's, who is said, or whose numbers its name has, and else the user's; the user enters it.
+/// Creates directories, each with room for `names` names, or one block, and enters them under version 1 in order: a later one may be below an earlier
+/// one. The owner is `owner` if given, otherwise the group and member in the name, otherwise the user. The user enters the directory.
 pub fn make_directories(
     alloc: Global,
     filing: &mut Filing,
@@ -70,7 +70,7 @@ fn make_directory(
     enter(filing, dir, name, Some(1), made?)
 }
 
-/// Makes the file of a directory with room for so many names, or one block.
+/// Creates the file of a directory with room for `names` names, or one block.
 pub(crate) fn create(
     filing: &mut Filing,
     name: Name,
@@ -108,7 +108,8 @@ fn blocks_for(names: u32) -> u32
     blocks
 }
 
-/// Whether the path of a new directory lies below another directory than the master; or why it means no directory. RSX knows no such directories.
+/// Returns whether the path of a new directory is below another directory than the master directory; RSX does not know such directories. Fails if the
+/// path specifies no directory.
 pub fn is_below_another(alloc: Global, path: &str) -> Result<bool, Why>
     ensures { MatchResult result (λ below. MatchBool below (IsBelowAnother path.now) (¬ IsBelowAnother path.now)) (MeansNone path.now) }
 {
@@ -179,7 +180,7 @@ fn find_meant(
     Ok(found)
 }
 
-/// Removes empty directories, one after another: a later one may have held an earlier one.
+/// Removes empty directories, in order: a later one may have held an earlier one.
 pub fn remove_directories(alloc: Global, filing: &mut Filing, paths: &[&str]) -> Result<(), Failure>
     // Refused or not, it is what Remove and Delete leave.
     ensures led { IsLed (Removes false) filing.old filing.new }

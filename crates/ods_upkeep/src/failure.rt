@@ -24,49 +24,49 @@ pub enum Why {
     /// The volume refuses a request of the command for this reason.
     #[error("{}: {}; {}", self.refusal(), self.reason(), self.remedy())]
     Request(Refusal),
-    /// The bytes are no text that can be written as records.
+    /// The bytes are not a text that can be written as records.
     #[error("{0}")]
     Text(TextFault),
     /// The host file cannot be put for this reason.
     #[error("{0}")]
     Put(PutFault),
-    /// A text, or what a header says, is no name of a file.
-    #[error("no name of a file: a name has at most 9 and 3 of A to Z, 0 to 9, $")]
+    /// A text, or the name in a header, is not a valid name of a file.
+    #[error("not a valid file name: a name has at most 9 and a type at most 3 of A to Z, 0 to 9, $")]
     BadName,
-    /// A directory, where a file is wanted.
-    #[error("a directory, and a file is wanted: 'rmdir' removes an empty directory, 'mv' moves one")]
+    /// A directory is given, but a file is required.
+    #[error("it is a directory, and the command needs a file: 'rmdir' removes an empty directory, 'mv' moves one")]
     IsDirectory,
-    /// A file of the type DIR would be one, or an entry of that type would name no directory.
-    #[error("the type DIR is that of directories, and theirs alone: 'mkdir' makes one")]
+    /// A file with the type DIR would be created, or an entry of that type would name no directory.
+    #[error("the type DIR is for directories, and each directory has it: 'mkdir' makes one")]
     DirectoryType,
-    /// A directory of the name is there.
-    #[error("NameTaken: a directory of this name is there; 'ls' shows it")]
+    /// A directory with this name exists.
+    #[error("NameTaken: a directory of this name exists; 'ls' shows it")]
     DirectoryThere,
-    /// A directory would be entered in itself, or below.
-    #[error("a directory does not go into itself, nor below")]
+    /// A directory would be entered in itself, or below itself.
+    #[error("a directory cannot be moved into itself or below itself")]
     IntoItself,
-    /// An ID, where a name is wanted.
-    #[error("a name is wanted, and no ID: 'find' shows the names of all files")]
+    /// An ID is given, but a name is required.
+    #[error("the command needs a name, not an ID: 'find' shows the names of all files")]
     IsId,
-    /// Patterns, several files or directories, or several versions, where one is wanted.
-    #[error("more than one is meant, where one is wanted: say it without * and ?")]
+    /// Patterns, several files or directories, or several versions are given, but one is required.
+    #[error("only one file or directory is possible here: use no * or ?, and a directory for several files")]
     Several,
-    /// Versions, where names alone are wanted.
-    #[error("versions are said, where those below the highest go: say the name without ';'")]
+    /// Versions are given, but only names are allowed.
+    #[error("purge itself selects the versions: give the name without ';'")]
     Versioned,
-    /// A file that would be deleted has a name.
-    #[error("a name stands for it: 'find' shows it, and 'rm' of all its names deletes the file")]
+    /// A file that would be deleted by its ID has a name.
+    #[error("it still has a name: 'find' shows it, and 'rm' of all its names deletes the file")]
     IsNamed,
-    /// A file would be cut behind its end.
-    #[error("past the end of the file: 'stat' says how many bytes it has")]
+    /// A file would be cut past its end.
+    #[error("past the end of the file: 'stat' shows how many bytes it has")]
     PastEnd,
-    /// Entries behind a directory's end mark name files: a name that is entered could be one of theirs.
+    /// Entries past the end mark of a directory name files. A new name could be one of theirs.
     #[error("the directory's end mark hides used entries: 'check --all' lists such directories")]
     Hidden,
 }
 
 impl Why {
-    /// The name of the refusal of a request.
+    /// Returns the name of the refusal of a request.
     fn refusal(&self) -> &'static str
         ensures { result.now ≡ refusal_name self.now }
     {
@@ -89,7 +89,7 @@ impl Why {
         }
     }
 
-    /// Why a request is refused so.
+    /// Returns why a request is refused.
     fn reason(&self) -> &'static str
         ensures { result.now ≡ reason_text (row_of (refusal_name self.now)) }
     {
@@ -99,7 +99,7 @@ impl Why {
         }
     }
 
-    /// What one can do then.
+    /// Returns the remedy for a refused request.
     fn remedy(&self) -> &'static str
         ensures { result.now ≡ remedy_text (row_of (refusal_name self.now)) }
     {
@@ -170,7 +170,7 @@ impl From<TextFault> for Why {
 }
 
 impl Why {
-    /// The exit status of a command that is refused so.
+    /// Returns the exit status of a command with this refusal.
     pub fn status(&self) -> Status
         ensures { HasStatus self.now result }
     {
@@ -192,7 +192,7 @@ impl Why {
     }
 }
 
-/// Why a command is refused, and the path or the file of which.
+/// Why a command is refused, and its path or file.
 #[derive(Drop, Debug)]
 pub struct Failure {
     pub path: String,
@@ -200,7 +200,7 @@ pub struct Failure {
 }
 
 impl Failure {
-    /// The exit status of the command.
+    /// Returns the exit status of the command.
     pub fn status(&self) -> Status
         ensures { HasStatus self.now.why result }
     {
@@ -208,7 +208,7 @@ impl Failure {
     }
 }
 
-/// The failure of this path. Where there is no memory for it, it is not said.
+/// Returns the failure of this path. If there is no memory for the path, it is left out.
 pub(crate) fn of_path(alloc: Global, path: &str, why: Why) -> Failure
     ensures path { HasPath result path.now }
     ensures why { result.why ≡ why }

@@ -9,8 +9,8 @@ use ods_filing::Filing;
 use ods_shell::{Alone, Found, PathFault, Unsaid};
 use std::alloc::Global;
 
-/// Gives each file that the paths name another protection word, where a set bit denies. Where a path says no version, the highest is meant. The user of the requests
-/// has to be the file's owner, or of a group at most 10 octal.
+/// Gives each selected file another protection word, in which a set bit denies. A path without a version selects the highest. The user of the
+/// requests must be the file's owner, or belong to a group of at most 10 octal.
 pub fn give_protection(
     alloc: Global,
     filing: &mut Filing,
@@ -25,7 +25,7 @@ pub fn give_protection(
     give(alloc, filing, paths, None, Some(protection))
 }
 
-/// Gives each file that the paths name to another owner. Which files are meant, and who may, is as of `give_protection`.
+/// Gives each selected file another owner. The selection and the required rights are as in `give_protection`.
 pub fn give_owner(
     alloc: Global,
     filing: &mut Filing,

@@ -1,4 +1,4 @@
-//! Entries that a directory's end mark hides: they stand in its blocks, behind the mark, and name files.
+//! Entries that a directory's end mark hides: they are stored in its blocks, past the mark, and name files.
 ghost use Rattle.std.specs.Prelude.{IfOk, MatchBool};
 ghost use Rattle.ods_mount.specs.{Faults.IsDirectoryFile, Sound.IsSoundBy};
 ghost use Rattle.ods_space.specs.Disks.{on};
@@ -11,7 +11,7 @@ use ods_mount::{FileBlocks, Mounted};
 use ods_space::{ChainFault, Disk, chain, primary_header};
 use std::alloc::{AllocError, Global};
 
-/// Whether the number is that of a directory whose end mark hides used entries.
+/// Returns whether the number belongs to a directory whose end mark hides used entries.
 pub(crate) fn hides_entries(
     alloc: Global,
     volume: &Mounted,

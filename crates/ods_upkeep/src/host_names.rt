@@ -10,7 +10,7 @@ use ods_base::Name;
 use ods_text::{cut_at, has_byte};
 use std::alloc::Global;
 
-/// The name that is said, or that of the host file.
+/// Returns the given name, or the name of the host file.
 pub(crate) fn name_for(alloc: Global, said: Option<Name>, host: &str) -> Result<Name, Why>
     ensures { MatchResult result (IsNameFor said host.now) (IsNameless said host.now) }
 {
@@ -39,7 +39,7 @@ fn host_name(alloc: Global, name: &str) -> Result<Name, Why>
     Ok(name)
 }
 
-/// What stands before the first dot, or all, and what stands behind it.
+/// Returns the part before the first dot, or the whole name, and the part after it.
 pub(crate) fn parts(name: &[u8]) -> (&[u8], &[u8])
     ensures { (result.0.now ≡ title_of name.now) × (result.1.now ≡ type_of name.now) }
 {
@@ -49,14 +49,14 @@ pub(crate) fn parts(name: &[u8]) -> (&[u8], &[u8])
     }
 }
 
-/// Whether it is the name of no file: it is empty, or says a version.
+/// Returns whether the name is not a file name: it is empty, or has a version.
 pub(crate) fn is_no_name(name: &[u8]) -> bool
     ensures { IsTrue result ↔ IsNoName name.now }
 {
     name.is_empty() || has_byte(b';', name)
 }
 
-/// The first one of three characters that the name has, each of which stands for one that RSX cannot type.
+/// Returns the first of three characters in the name that stand for characters that RSX cannot type.
 pub(crate) fn untyped(name: &[u8]) -> Option<char>
     ensures { MatchOption result (IsTyped name.now) (IsUntyped name.now) }
 {

@@ -1,5 +1,5 @@
-//! What the changing commands of `f11fs` do on a volume: which files their paths mean, and which requests they make.
-//! The clauses say exactly which requests each command makes, and that each refusal has a true reason. Of a refused `put` they do not say that:
+//! The changing commands of `f11fs` on a volume: which files their paths select, and which requests they make.
+//! The clauses state exactly which requests each command makes, and that each refusal has a true reason. For a refused `put` they do not:
 //! `tests/fs_changes` checks it on the built program.
 #![tactic(auto)]
 

@@ -1,4 +1,4 @@
-//! The file like which others are made.
+//! The model file, whose form new files copy.
 ghost use Rattle.std.specs.Prelude.{◌≡◌, MatchResult, Some};
 ghost use Rattle.std.specs.Option.{option_map};
 ghost use Rattle.ods_shell.specs.declared.facts.Facts.{Facts};
@@ -14,7 +14,7 @@ use ods_shell::mounted::find_path;
 use ods_shell::{Alone, Facts, Kind, PathFault, Unsaid};
 use std::alloc::Global;
 
-/// What is known of the file like which others are made.
+/// Returns the facts of the model file.
 pub(crate) fn like_facts(
     alloc: Global,
     volume: &Mounted,
@@ -51,7 +51,7 @@ fn facts_at(alloc: Global, volume: &Mounted, path: &str) -> Result<Facts, Why>
     Ok(facts)
 }
 
-/// The attributes of the file like which others are made, where there is one.
+/// Returns the attributes of the model file, if there is one.
 pub(crate) fn attributes_in(like: &Option<Facts>) -> Option<[u8; 32]>
     ensures { result ≡ option_map (λ (f : Facts). f.attributes) like.now }
 {
@@ -68,7 +68,7 @@ fn is_contiguous(facts: &Facts) -> bool
     facts.user_char >= CONTIGUOUS
 }
 
-/// Where the blocks of new files stand: as it is said; else in one piece where the file like which they are made is contiguous.
+/// Returns where the blocks of new files are allocated: as `said`, otherwise in one piece if the model file is contiguous.
 pub(crate) fn placing_by(said: Option<Placing>, like: &Option<Facts>) -> Placing
     ensures { result ≡ placing_for said like.now }
 {
@@ -81,7 +81,7 @@ pub(crate) fn placing_by(said: Option<Placing>, like: &Option<Facts>) -> Placing
     }
 }
 
-/// Where the blocks of a file stand that is made like this one.
+/// Returns where the blocks of a new file are allocated, like the blocks of this one.
 pub(crate) fn placing_like(said: Option<Placing>, facts: &Facts) -> Placing
     ensures { result ≡ placing_for said (Some facts.now) }
 {

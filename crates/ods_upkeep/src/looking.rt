@@ -1,4 +1,4 @@
-//! Names that a user looks up in a directory, and the version that comes next.
+//! Names that a user looks up in a directory, and the next version.
 ghost use Rattle.std.specs.Prelude.{◌≡◌, ℕ, MatchOption, Some};
 ghost use Rattle.ods_filing.specs.Led.{IsAsked};
 ghost use Rattle.ods_upkeep.specs.Looked.{IsNextVersion, IsSeen, IsUnseen};
@@ -7,7 +7,7 @@ use ods_base::{FileId, Name, Pick};
 use ods_filing::Filing;
 use ods_request::{Answer, Request};
 
-/// The file and the version that stand under a name, where the user may see it.
+/// Returns the file and the version under a name, if the user may see it.
 pub(crate) fn look_up(
     filing: &mut Filing,
     dir: FileId,
@@ -28,7 +28,7 @@ pub(crate) fn look_up(
     }
 }
 
-/// The version under which a name is entered next: the one that is said, or the one behind the highest that the user may see; else 1.
+/// Returns the version for a new entry of a name: the given one, or the highest that the user may see plus one, otherwise 1.
 pub(crate) fn next_version(
     filing: &mut Filing,
     dir: FileId,

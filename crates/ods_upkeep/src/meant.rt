@@ -1,4 +1,4 @@
-//! Which directory a path of `mkdir` or `rmdir` means: `[A]`, `[1,2]`, `A/`, `A`, `1,2`, and the same below others.
+//! The directory that a path of `mkdir` or `rmdir` selects: `[A]`, `[1,2]`, `A/`, `A`, `1,2`, and the same below others.
 ghost use Rattle.std.specs.Prelude.{◌≡◌, ◌≢◌, ◌++◌, [], false, IfErr, IfOk, MatchResult, OnOk};
 ghost use Rattle.ods_paths.specs.{Paths.Said, Paths.Says, Patterns.capitals, Views.files as said_files, Views.folder as said_folder, Views.step as said_step, Views.steps as said_steps};
 ghost use Rattle.ods_upkeep.specs.Meant.{IsLastStep, IsMeant, MayBeFirst, SaysName};
@@ -20,7 +20,7 @@ pub(crate) struct Meant<'a> {
     pub name: Vec<u8>,
 }
 
-/// What a path means.
+/// Returns the selection of a path.
 pub(crate) fn read_meant<'a>(alloc: Global, path: &'a [u8]) -> Result<Meant<'a>, Why>
     ensures { MatchResult result (λ meant. (says : Said) × Says path.now says × IsMeant path.now says (said_folder meant.folder) (capitals meant.name.items)) (MeansNone path.now) }
 {
@@ -78,7 +78,7 @@ fn of_folder<'a>(alloc: Global, folder: Folder<'a>) -> Result<Meant<'a>, Why>
     })
 }
 
-/// The name that a step says, or the pattern for it.
+/// Returns the name that a step specifies, or the pattern for it.
 pub(crate) fn name_said(alloc: Global, step: &Step<'_>) -> Result<Vec<u8>, Why>
     ensures { MatchResult result (λ name. SaysName (said_step step.now) (capitals name.items)) (SaysNoName (said_step step.now)) }
 {

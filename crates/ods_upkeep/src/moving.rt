@@ -21,8 +21,8 @@ use ods_shell::{Alone, EntryPlace, Found, Kind, Unsaid};
 use ods_walk::{Walk, walk_from};
 use std::alloc::Global;
 
-/// Moves names to a directory that is there, or gives one another name. The file is entered under the next version where none is said; then the very
-/// entry that was found goes.
+/// Moves names to an existing directory, or gives one file another name. The file is entered under the next version if none is given. Then exactly
+/// the entry that was found is removed.
 /// None of its requests changes the bytes of a plain file.
 pub fn move_names(
     alloc: Global,

@@ -1,4 +1,4 @@
-//! How many entries of all directories name each file, also of such directories as no walk reaches.
+//! How many entries of all directories name each file, including directories that no walk reaches.
 ghost use Rattle.std.specs.Prelude.{◌≡◌, ◌^◌, ◌<◌, ◌++◌, ◌∷◌, [], ℕ, List, length, slice_index, IfOk, OnOk, MatchBool};
 ghost use Rattle.ods_base.specs.declared.listed.Listed.{Listed as Entry};
 ghost use Rattle.ods_mount.specs.{Faults.IsDirectoryFile};
@@ -29,7 +29,7 @@ impl Model for Names {
     ghost invariant = { λ n. length n.counts.items ≡ 65536 };
 }
 
-/// Whether the number is that of a directory.
+/// Returns whether the number belongs to a directory.
 pub(crate) fn is_directory_file(volume: &Mounted, number: u16) -> bool
     ensures { MatchBool result (IsDirectoryFile volume.now.image volume.now.layout number) (¬ IsDirectoryFile volume.now.image volume.now.layout number) }
 {
@@ -40,7 +40,7 @@ pub(crate) fn is_directory_file(volume: &Mounted, number: u16) -> bool
 }
 
 impl Names {
-    /// Those of a volume: one look at each directory.
+    /// Counts the entries of a volume, with one pass over each directory.
     pub fn of(alloc: Global, volume: &Mounted) -> Result<Names, AllocError>
         ensures { IfOk result (λ names. AreCounts volume.now.image volume.now.layout (slice_index names)) }
     {
@@ -52,7 +52,7 @@ impl Names {
         Ok(names)
     }
 
-    /// Counts the entries of a directory; none where the number is that of no directory.
+    /// Counts the entries of a directory, or none if the number does not belong to a directory.
     fn add_directory(
         &mut self,
         alloc: Global,
@@ -72,7 +72,7 @@ impl Names {
         Ok(())
     }
 
-    /// One entry more names its file, where that is there.
+    /// Counts this entry for its file, if the file exists.
     fn add_entry(&mut self, volume: &Mounted, entry: &Listed)
         ensures { (entries : List Entry) → length entries < 2 ^ 63 → AreCountsOf volume.now.image volume.now.layout entries (slice_index self.old)
             → AreCountsOf volume.now.image volume.now.layout (entries ++ entry.now ∷ []) (slice_index self.new) }
@@ -82,14 +82,14 @@ impl Names {
         }
     }
 
-    /// How many entries name this file.
+    /// Returns how many entries name this file.
     pub fn count(&self, file: FileId) -> u64
         ensures { result ≡ slice_index self.now file.number }
     {
         self.counts[file.number as usize]
     }
 
-    /// One entry more names this file.
+    /// Counts one entry more for this file.
     pub fn add(&mut self, file: FileId)
         ensures { slice_index self.new ≡ one_more (slice_index self.old) file.number }
     {
@@ -97,7 +97,7 @@ impl Names {
         *count = count.saturating_add(1);
     }
 
-    /// One entry less names this file.
+    /// Counts one entry less for this file.
     pub fn take(&mut self, file: FileId)
         ensures { slice_index self.new ≡ one_less (slice_index self.old) file.number }
     {

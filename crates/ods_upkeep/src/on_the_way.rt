@@ -1,4 +1,4 @@
-//! The directories on the way of a path: those that are not there are made, as `mkdir` makes them.
+//! The directories on the way of a path. `mkdir` rules apply when a missing one is created.
 ghost use Rattle.std.specs.Prelude.{◌≡◌, ◌<◌, ℕ, List, [], length, IfErr, IfOk, MatchOption, MatchResult, OnOk};
 ghost use Rattle.std.specs.String.{string_bytes};
 ghost use Rattle.ods_text.specs.Cuts.{cut_of};
@@ -18,8 +18,8 @@ use ods_request::Stamp;
 use ods_shell::PathFault;
 use std::alloc::{AllocError, Global};
 
-/// Sees that each directory is there on the way that the parts of a path lead, before the last part. Gives the way to the last of them, which is empty where
-/// that is the master directory.
+/// Ensures that each directory on the way of a path exists, except its last part. Returns the way to the last of them, which is empty for the master
+/// directory.
 pub(crate) fn make_way(
     alloc: Global,
     filing: &mut Filing,
@@ -39,7 +39,7 @@ pub(crate) fn make_way(
     Ok(way)
 }
 
-/// The part of a path behind its last slash.
+/// Returns the part of a path after its last slash.
 pub(crate) fn last_part(path: &str) -> &str
     ensures { (parts : List (List ℕ)) × IsParted path.now parts result.now }
 {
@@ -50,7 +50,7 @@ pub(crate) fn last_part(path: &str) -> &str
     rest
 }
 
-/// What stands before the first slash of a path, and what stands behind it.
+/// Returns the parts before and after the first slash of a path.
 #[tactic(auto, using(crate::proofs::CutTexts::cut_some, crate::proofs::CutTexts::cut_none))]
 pub(crate) fn cut_path(path: &str) -> Option<(&str, &str)>
     ensures cut { MatchOption result (cut_of 47 path.now ≡ None) (λ p. cut_of 47 path.now ≡ Some (p.0.now, p.1.now)) }
@@ -98,7 +98,7 @@ fn push_part(way: &mut String, part: &str) -> Result<(), AllocError>
     way.push_str(part)
 }
 
-/// Sees that the directory of a path is there.
+/// Ensures that the directory of a path exists, and creates it if it does not.
 pub(crate) fn make_there(
     alloc: Global,
     filing: &mut Filing,
@@ -141,7 +141,7 @@ fn find_folder(alloc: Global, volume: &Mounted, folder: &Folder<'_>) -> Result<O
     }
 }
 
-/// The directory of a path, which takes names.
+/// Returns the directory of a path if it takes names.
 pub(crate) fn open_directory(alloc: Global, volume: &Mounted, path: &str) -> Result<FileId, Why>
     ensures { MatchResult result (IsOpen volume.now.image volume.now.layout path.now) (IsNotOpen volume.now.image volume.now.layout path.now) }
 {
@@ -154,7 +154,7 @@ pub(crate) fn open_directory(alloc: Global, volume: &Mounted, path: &str) -> Res
     Ok(file)
 }
 
-/// The path of the directory to which a way leads.
+/// Returns the path of the directory that a way reaches.
 pub(crate) fn path_of_way(way: &str) -> &str
     ensures { result.now ≡ path_of way.now }
 {

@@ -1,4 +1,4 @@
-//! The volume's own files, and their entries in the master directory, which stay.
+//! The volume's own files, and their entries in the master directory, which are never removed.
 ghost use Rattle.std.specs.Prelude.{◌↔◌, IsTrue};
 ghost use Rattle.ods_upkeep.specs.Pieces.{Stays};
 
@@ -7,10 +7,10 @@ use ods_shell::Found;
 /// The number of the master directory.
 pub(crate) const MASTER: u16 = 4;
 
-/// The last of the volume's own files.
+/// The number of the last of the volume's own files.
 pub(crate) const LAST_OWN: u16 = 5;
 
-/// Whether it is an entry that stays: one of the master directory that names a file of the volume's own, 1 to 5.
+/// Returns whether an entry is never removed: it is in the master directory, and names a file of the volume's own, 1 to 5.
 pub(crate) fn stays(found: &Found) -> bool
     ensures { IsTrue result ↔ Stays found.now.place found.now.facts }
 {

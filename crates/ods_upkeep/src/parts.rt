@@ -1,11 +1,11 @@
-//! The last part of a path, behind its directories.
+//! The last part of a path, after its directories.
 ghost use Rattle.std.specs.Prelude.{◌≡◌, ◌↔◌, IsTrue};
 ghost use Rattle.ods_text.specs.Cuts.{Has};
 ghost use Rattle.ods_upkeep.specs.Pieces.{ends_folder, last_part};
 
 use ods_text::has_byte;
 
-/// Whether there is a dot behind the directories of a path.
+/// Returns whether a dot comes after the directories of a path.
 pub(crate) fn has_dot(path: &[u8]) -> bool
     ensures { IsTrue result ↔ Has 46 (last_part path.now) }
 {

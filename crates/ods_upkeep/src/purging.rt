@@ -1,4 +1,4 @@
-//! `purge` keeps the highest versions of each name, and removes those below them.
+//! `purge` keeps the highest versions of each name, and removes the versions below them.
 ghost use Rattle.std.specs.Prelude.{◌≡◌, false, IfErr, IfOk, MatchResult, OnOk};
 ghost use Rattle.std.specs.List.{All};
 ghost use Rattle.ods_filing.specs.Led.{IsLed};
@@ -23,8 +23,8 @@ const EVERY_VERSION: Unsaid = Unsaid {
     alone: Alone::Refused,
 };
 
-/// Of each name that the paths find the highest versions stay, `keep` of them. The others go as `remove_files` removes them: their entries, and each
-/// file that no entry names any more. Directories and the volume's own files stay. A path that says versions, or an ID, is refused.
+/// Keeps the `keep` highest versions of each name that the paths find, and removes the others like `remove_files`: their entries, and each file that
+/// no entry names any more. Directories and the volume's own files stay. A path with versions, or with an ID, is refused.
 pub fn purge_files(
     alloc: Global,
     filing: &mut Filing,

@@ -1,4 +1,4 @@
-//! `put`: files of the host are put one by one.
+//! `put`: puts files of the host one by one.
 ghost use Rattle.std.specs.Prelude.{◌≡◌, is_some, not, ◌&&◌, true, None, IfErr, IfOk, MatchResult, OnOk};
 ghost use Rattle.ods_filing.specs.Led.{IsLed};
 ghost use Rattle.ods_upkeep.specs.{Begun.AreKept, Begun.AreNames, Begun.IsBegun, Begun.count_of, Begun.path_to};
@@ -28,7 +28,7 @@ use ods_request::Stamp;
 use std::alloc::Global;
 use std::marker::Model;
 
-/// How files are put one by one. The target and the file like which they are made are looked up before the first.
+/// How files are put one by one. The target and the model file are looked up before the first.
 #[derive(Drop)]
 pub struct Putting {
     target: Target,
@@ -36,11 +36,11 @@ pub struct Putting {
     form: PutForm,
     like: Option<[u8; 32]>,
     placing: Placing,
-    /// Whose the new files are, where another is said than who asks.
+    /// The owner of the new files, if it differs from the requesting user.
     owner: Option<Uic>,
-    /// How many entries name each file, where files are replaced.
+    /// How many entries name each file, if files are replaced.
     names: Option<Names>,
-    /// Where several are put and none is replaced: the highest version of each name in the directory.
+    /// The highest version of each name in the directory, if several files are put and none is replaced.
     highest: Option<Highest>,
 }
 
@@ -53,9 +53,10 @@ impl Model for Putting {
 }
 
 impl Putting {
-    /// Looks up where files go: a directory that is there, or a name; with no target the master directory. With `like` their records are written as those of
-    /// that file; asked for as bytes, they get all its attributes but for the end of file. Their blocks stand as `placing` says; where it says nothing, in one piece where that file is contiguous. With `replace` a file that has the name, and the version that
-    /// is said, or the highest, makes room for the new one. With `owner` the new files are that user's, and he makes them; who asks enters them.
+    /// Looks up the target: an existing directory, or a name; without a target the master directory. With `like` the records of the new files are
+    /// written like the records of that file. As bytes, they get all its attributes except the end of file. `placing` determines the location of the
+    /// blocks; without it, they are in one piece if that file is contiguous. With `replace`, a file with the name, and with the given version or else
+    /// the highest, makes room for the new one. With `owner` that user owns and makes the new files; the requesting user enters them.
     pub fn begin(
         alloc: Global,
         volume: &Mounted,
@@ -88,8 +89,8 @@ impl Putting {
         })
     }
 
-    /// Asks for the headers of so many files at once, before the first of them is put, so that they share a few pointers of INDEXF.SYS. Refused, it
-    /// changes nothing, and each file asks for its own. Where files are replaced it asks for none, since they leave theirs.
+    /// Requests the headers of `files` files at once, before the first is put, so that they share a few pointers of INDEXF.SYS. If the request is
+    /// refused, nothing changes, and each file requests its own. If files are replaced it requests none, since the old files free theirs.
     pub fn make_ready(&self, filing: &mut Filing, files: usize)
         ensures grown { MayHaveGrown files filing.old filing.new }
         ensures replaces { replaces self.now ≡ true → filing.new ≡ filing.old }
@@ -99,14 +100,14 @@ impl Putting {
         }
     }
 
-    /// The files that are put from now on get this date and time of creation.
+    /// Sets the date and time of creation of the files that are put from now on.
     pub fn set_time(&mut self, stamp: Stamp)
         ensures { self.new ≡ at_time self.old stamp }
     {
         self.stamp = stamp;
     }
 
-    /// Puts one; gives what is to be remarked, if anything.
+    /// Puts one file. Returns its remark, if there is one.
     pub fn put(
         &mut self,
         alloc: Global,
@@ -130,7 +131,7 @@ impl Putting {
         }
     }
 
-    /// How one file is put to a target, by its contents or in a form that is said.
+    /// Returns how one file is put to a target, by its contents or in a given form.
     pub(crate) fn one(
         target: Target,
         stamp: Stamp,
@@ -152,7 +153,7 @@ impl Putting {
         }
     }
 
-    /// Puts one.
+    /// Puts one file.
     pub(crate) fn put_one(
         &mut self,
         alloc: Global,
@@ -312,9 +313,9 @@ fn remark(alloc: Global, written: &Written<'_>) -> Result<Option<String>, Why>
     let Some(near) = written.near else {
         return Ok(None);
     };
-    let mut text = format!(in alloc; "put as bytes, since {near}")?;
+    let mut text = format!(in alloc; "stored as bytes, because {near}")?;
     if near != NearText::LongLine {
-        text.push_str("; -t makes records")?;
+        text.push_str("; -t stores lines as records")?;
     }
     Ok(Some(text))
 }

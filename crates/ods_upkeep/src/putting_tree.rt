@@ -18,17 +18,17 @@ use std::alloc::Global;
 /// How the files of a tree are put.
 #[derive(Clone, Copy)]
 pub struct TreeForm {
-    /// When they are made.
+    /// The time of their creation.
     pub stamp: Stamp,
     /// The form of their bytes.
     pub form: PutForm,
-    /// Where their blocks stand.
+    /// Where their blocks are allocated.
     pub placing: Placing,
-    /// Whose they are, where another is said than who asks.
+    /// Their owner, if it differs from the requesting user.
     pub owner: Option<Uic>,
 }
 
-/// The directory below which a tree goes. It is made as `mkdir` makes it where it is not there.
+/// Returns the directory below which a tree is put. It is created, like with `mkdir`, if it does not exist.
 pub fn tree_root(
     alloc: Global,
     filing: &mut Filing,
@@ -52,7 +52,7 @@ fn root_at(alloc: Global, filing: &mut Filing, stamp: Stamp, to: &str) -> Result
     open_directory(alloc, filing.mounted(), to)
 }
 
-/// Sees that the directories are there, below this one, that the folders of a path are.
+/// Ensures that the directories for the folders of a path exist below this one.
 pub fn make_folders(
     alloc: Global,
     filing: &mut Filing,
@@ -83,7 +83,7 @@ fn folder_at(
     place_below(alloc, filing, stamp, dir, &names)
 }
 
-/// Puts a file of a tree below this directory, where its path says; gives what is to be remarked, if anything.
+/// Puts a file of a tree below this directory, at the location in its path. Returns its remark, if there is one.
 pub fn put_leaf(
     alloc: Global,
     filing: &mut Filing,

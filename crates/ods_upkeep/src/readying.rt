@@ -1,10 +1,10 @@
-//! Headers for many files, which are asked for at once.
+//! Headers for many files, requested at once.
 ghost use Rattle.ods_upkeep.specs.Ready.{MayHaveGrown};
 
 use ods_filing::Filing;
 
-/// Asks for the headers of so many files at once, so that they share a few pointers of INDEXF.SYS. Refused, it changes nothing, and each file asks
-/// for its own.
+/// Requests the headers of `files` files at once, so that they share a few pointers of INDEXF.SYS. If the request is refused, nothing changes, and
+/// each file requests its own.
 pub fn make_ready(filing: &mut Filing, files: usize)
     ensures { MayHaveGrown files filing.old filing.new }
 {

@@ -19,8 +19,8 @@ use ods_request::Refusal;
 use ods_shell::{Alone, EntryPlace, Facts, Found, Kind, Unsaid};
 use std::alloc::Global;
 
-/// Removes entries, and deletes each file that no entry of any directory names any more. A path has to say its versions, or `newest` is asked for. A
-/// file by its ID is deleted where no entry names it. Directories stay.
+/// Removes entries, and deletes each file that no entry of any directory names any more. A path must specify its versions, or `newest` is requested.
+/// A file by its ID is deleted if no entry names it. Directories stay.
 /// None of its requests writes a block of a plain file.
 pub fn remove_files(
     alloc: Global,
@@ -65,7 +65,7 @@ fn check_all(alloc: Global, all: &[Found], names: &Names, removal: Removal) -> R
     Ok(())
 }
 
-/// Removes these, one after another.
+/// Removes these, in order.
 pub(crate) fn remove_all(
     alloc: Global,
     filing: &mut Filing,
@@ -111,7 +111,7 @@ fn check(found: &Found, names: &Names, removal: Removal) -> Result<(), Why>
     Ok(())
 }
 
-/// Removes an entry, and deletes its file where none is left; or a file by its ID.
+/// Removes an entry, and deletes its file if no entry is left; or deletes a file by its ID.
 pub(crate) fn remove_one(
     filing: &mut Filing,
     found: &Found,
@@ -168,7 +168,7 @@ fn remove_place(filing: &mut Filing, place: Option<EntryPlace>) -> Result<(), Wh
     }
 }
 
-/// Removes the entry at this place.
+/// Removes the entry at this location.
 pub(crate) fn remove_at(filing: &mut Filing, place: &EntryPlace) -> Result<(), Why>
     ensures done { OnOk result (IsObeyed filing.old (Request.Remove place.now.directory place.now.entry.name (Pick.Exact place.now.entry.version)) filing.new) }
     ensures asked { IsAsked filing.old (Request.Remove place.now.directory place.now.entry.name (Pick.Exact place.now.entry.version)) filing.new }

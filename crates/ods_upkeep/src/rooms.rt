@@ -11,7 +11,8 @@ use ods_base::{FileId, Name, Pick};
 use ods_filing::Filing;
 use ods_request::{Answer, Kind, Refusal, Request};
 
-/// Where files are replaced and one has the name: its entry goes, and the file where no other entry names it. Gives the version that is free then.
+/// If files are replaced and an entry has the name: removes it, and deletes its file if no other entry names it. Returns the version that is free
+/// then.
 pub(crate) fn make_room(
     filing: &mut Filing,
     dir: FileId,

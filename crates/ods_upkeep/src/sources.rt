@@ -1,4 +1,4 @@
-//! The files that the words of a command name, each name once, in the order in which they are changed.
+//! The files that the words of a command select, each name once, in the order of the changes.
 ghost use Rattle.std.specs.Prelude.{◌≡◌, ◌++◌, ◌∷◌, [], ◌⊎◌, List, reverse, IfOk, MatchResult, OnOk};
 ghost use Rattle.ods_shell.specs.declared.found.Found.{Found as One};
 ghost use Rattle.ods_upkeep.specs.Refused.{AreNoSources, IsNoSource};
@@ -14,7 +14,7 @@ use ods_space::Disk;
 use std::alloc::{AllocError, Global};
 use std::collections::BTreeSet;
 
-/// What these paths find. Of one path the last lines come first, so that of one name the versions rise.
+/// Returns what these paths find. The results of one path are reversed, so that the versions of one name rise.
 pub(crate) fn sources(
     alloc: Global,
     volume: &Mounted,
@@ -28,7 +28,7 @@ pub(crate) fn sources(
     sources_on(alloc, &disk, paths, unsaid)
 }
 
-/// The same on a volume that may be one that is refused.
+/// Returns the same on a volume that a mount may refuse.
 pub(crate) fn sources_on(
     alloc: Global,
     disk: &Disk<'_>,

@@ -1,12 +1,12 @@
-//! The target of a command: a directory, and a name in it where the path has one.
+//! The target of a command: a directory, and a name in it if the path has one.
 use ods_base::{FileId, Name};
 
-/// Where names go.
+/// The target of a command.
 #[derive(Drop)]
 pub(crate) struct Target {
     pub directory: FileId,
-    /// The name there; where none is said, each file keeps its own.
+    /// The name there; without it, each file keeps its own.
     pub name: Option<Name>,
-    /// Its version; where none is said, it is the next one.
+    /// Its version; without it, the next one.
     pub version: Option<u16>,
 }

@@ -1,4 +1,4 @@
-//! Which target a path says.
+//! The target that a path specifies.
 ghost use Rattle.std.specs.Prelude.{◌≡◌, ◌⊎◌, ◌++◌, ◌∷◌, ◌↔◌, [], IfErr, IfOk, IsTrue, MatchOption, MatchResult};
 ghost use Rattle.ods_base.specs.Name.{RadName, Spells};
 ghost use Rattle.ods_base.specs.declared.file_id.FileId.{FileId as Id};
@@ -24,7 +24,7 @@ use ods_shell::mounted::{facts_by_id, facts_of, find_directories, find_names};
 use ods_shell::{Found, Kind, PathFault};
 use std::alloc::Global;
 
-/// The target of so many files: a name is that of one.
+/// Returns the target of `count` files: a name is the target of only one file.
 pub(crate) fn target_of(
     alloc: Global,
     volume: &Mounted,
@@ -112,7 +112,7 @@ fn whole(directory: FileId) -> Target
     }
 }
 
-/// The one directory that is meant.
+/// Returns the one selected directory.
 pub(crate) fn the_directory(
     alloc: Global,
     volume: &Mounted,
@@ -199,7 +199,8 @@ fn directory_into(
     directory_named(alloc, volume, folder, files.name)
 }
 
-/// Whether a path with this type may name a directory: its type is DIR, or it has none, and no dot either. `A.` is a name with the empty type.
+/// Returns whether a path with this type may name a directory: its type is DIR, or it has none, and no dot either. `A.` is a name with the empty
+/// type.
 pub(crate) fn may_be_directory(path: &[u8], kind: &[u8]) -> bool
     ensures { IsTrue result ↔ MayBeDirectory path.now (capitals kind.now) }
 {
@@ -251,7 +252,7 @@ fn one_directory(found: &[Found]) -> Option<FileId>
     Some(facts.file)
 }
 
-/// The name of these characters, in either case, and this type.
+/// Returns the name with these characters, in either case, and this type.
 pub(crate) fn name_of(alloc: Global, name: &[u8], kind: &[u8]) -> Result<Name, Why>
     ensures { MatchResult result (λ n. Spells (capitals name.now ++ 46 ∷ capitals kind.now) n Pick.Highest) (IsNoName (capitals name.now) (capitals kind.now)) }
 {

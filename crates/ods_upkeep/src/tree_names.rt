@@ -1,4 +1,4 @@
-//! Names of a tree of the host, as `get -r` writes them: which directory and which file of the volume a path says, or why it says none.
+//! Names of a tree of the host, as `get -r` writes them: the directory and the file of the volume that a path specifies, or why it specifies none.
 ghost use Rattle.std.specs.Prelude.{◌≡◌, ℕ, List, IfOk, IfErr, MatchResult};
 ghost use Rattle.ods_upkeep.specs.TreeNames.{AreFolderNames, IsFolderName, IsNoFolderName, IsNoTreeName, IsSaidVersion, IsTreeName, SaysKind, SaysFolders, SaysNoFolders, SaysNoKind, SaysNoPlace, SaysPlace};
 ghost use Rattle.ods_upkeep.specs.Wayside.{IsParted};
@@ -14,8 +14,8 @@ use ods_paths::read_step;
 use ods_text::{cut_at, is_text, read_small};
 use std::alloc::Global;
 
-/// Whether a path of a tree says a place on the volume. Each of its folders has the name of a directory. What stands behind the last slash has that of a
-/// file, or is nothing.
+/// Checks whether a path of a tree specifies a location on the volume. Each of its folders has the name of a directory. The part after the last slash
+/// is the name of a file, or is empty.
 pub fn judge_path(alloc: Global, path: &str) -> Result<(), Why>
     ensures { MatchResult result (λ _. SaysPlace path.now) (SaysNoPlace path.now) }
 {
@@ -28,7 +28,7 @@ pub fn judge_path(alloc: Global, path: &str) -> Result<(), Why>
     Ok(())
 }
 
-/// The names of the directories that the folders of a path are, which have a slash behind them each.
+/// Returns the names of the directories for the folders of a path. Each folder is followed by a slash.
 pub(crate) fn folder_names(alloc: Global, path: &str) -> Result<Vec<Name>, Why>
     ensures ok { IfOk result (λ names. SaysFolders path.now names.items) }
     // However the path is parted.
@@ -56,7 +56,7 @@ fn folder_name(alloc: Global, folder: &str) -> Result<Name, Why>
     name_of(alloc, &text, b"DIR")
 }
 
-/// The name of a file that its name on the host is, and its version where it says one behind a second dot. A file of type DIR is none.
+/// Returns the volume name of a host file, and its version if the name has one after a second dot. A file with the type DIR is not valid.
 pub(crate) fn tree_name(alloc: Global, name: &str) -> Result<(Name, Option<u16>), Why>
     ensures { MatchResult result (λ said. IsTreeName name.now said.0 said.1) (IsNoTreeName name.now) }
 {

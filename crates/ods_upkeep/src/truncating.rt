@@ -15,7 +15,7 @@ use ods_shell::mounted::find_path;
 use ods_shell::{Alone, Facts, Kind, PathFault, Unsaid};
 use std::alloc::Global;
 
-/// Cuts a file to so many bytes: the blocks behind them go, and F.EFBK, F.FFBY and F.HIBK say so. It never grows.
+/// Cuts a file to `bytes` bytes: frees the blocks past them, and sets F.EFBK, F.FFBY and F.HIBK. A file never grows.
 pub fn truncate_file(
     alloc: Global,
     filing: &mut Filing,

@@ -1,4 +1,4 @@
-//! `untar`: the files of an archive are put one by one.
+//! `untar`: puts the files of an archive one by one.
 ghost use Rattle.std.specs.Prelude.{◌≡◌, ℕ, length, None, IfErr, MatchOption, MatchResult, OnOk};
 ghost use Rattle.ods_text.specs.Cuts.{cut_of};
 ghost use Rattle.ods_upkeep.specs.HostPut.{IsVersionFor};
@@ -24,24 +24,24 @@ use std::alloc::Global;
 /// A file of an archive.
 #[derive(Clone, Copy)]
 pub struct Packed<'a> {
-    /// Its path: names of directories, each with a slash behind it, and its name, which may have a `;` and a version.
+    /// Its path: names of directories, each followed by a slash, and its name, which may have a `;` and a version.
     pub path: &'a str,
     /// Its bytes.
     pub bytes: &'a [u8],
-    /// When it was made.
+    /// The time of its creation.
     pub stamp: Stamp,
-    /// Its attributes, where its records say them.
+    /// Its attributes, if its records specify them.
     pub attributes: Option<[u8; 32]>,
-    /// Its owner, where its records say one.
+    /// Its owner, if its records specify one.
     pub owner: Option<Uic>,
-    /// Its protection word, where its records say one.
+    /// Its protection word, if its records specify one.
     pub protection: Option<u16>,
-    /// Where its blocks stand.
+    /// Where its blocks are allocated.
     pub placing: Placing,
 }
 
-/// Puts a file of an archive. The directories on its way that are not there are made as `mkdir` makes them, at the time of `stamp`. The user makes the file, and gives it
-/// the owner and the protection that its records say.
+/// Puts a file of an archive. Missing directories on its way are created like with `mkdir`, at the time `stamp`. The user makes the file, and gives
+/// it the owner and the protection in its records.
 pub fn untar_file(
     alloc: Global,
     filing: &mut Filing,

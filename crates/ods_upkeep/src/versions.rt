@@ -1,4 +1,4 @@
-//! The highest version of each name in the directory that many files are put into, so that it is not looked up anew for each.
+//! The highest version of each name in the directory that receives many files. It is not looked up anew for each file.
 ghost use Rattle.std.specs.Prelude.{◌≡◌, max, IfOk, OnOk};
 ghost use Rattle.ods_upkeep.specs.Versions.{AreHighest, IsNoted, behind, key_of, version_in};
 
@@ -27,7 +27,7 @@ impl Model for Highest {
 }
 
 impl Highest {
-    /// Those of a directory; none where the file is no directory.
+    /// Returns the names of a directory; none if the file is not a directory.
     pub fn of(alloc: Global, volume: &Mounted, directory: FileId) -> Result<Highest, AllocError>
         ensures { IfOk result (AreHighest volume.now.image volume.now.layout directory.number) }
     {
@@ -41,7 +41,7 @@ impl Highest {
         Ok(highest)
     }
 
-    /// The version behind the highest of this name; 1 where there is none.
+    /// Returns the version after the highest of this name, or 1 if there is none.
     pub fn next(&self, name: &Name) -> u16
         ensures { result ≡ behind (version_in self.now name.now) }
     {
@@ -58,7 +58,7 @@ impl Highest {
         self.versions.get(&key(name)).copied()
     }
 
-    /// This version of the name is there too.
+    /// Records this version of the name.
     pub fn note(&mut self, name: &Name, version: u16) -> Result<(), AllocError>
         ensures { OnOk result (IsNoted self.old name.now version self.new) }
     {

@@ -16,21 +16,21 @@ use ods_records::{
 use ods_request::Refusal;
 use std::alloc::Global;
 
-/// What is written of a host file, and its attributes.
+/// The bytes to write for a host file, and its attributes.
 #[derive(Drop)]
 pub(crate) struct Written<'a> {
     host: &'a [u8],
-    /// The records, where it is put as such.
+    /// The records, if it is put as records.
     records: Option<Vec<u8>>,
     pub attributes: [u8; 32],
-    /// A last line without LF became a record.
+    /// Whether a last line without LF became a record.
     pub is_completed: bool,
-    /// What the bytes lack to be put as records, where it is one thing, and no form is said.
+    /// What the bytes lack to be put as records, if it is one thing, and no form is given.
     pub near: Option<NearText>,
 }
 
 impl<'a> Written<'a> {
-    /// The bytes.
+    /// Returns the bytes to write.
     pub fn bytes(&self) -> &[u8]
         ensures { result.now ≡ bytes_of self.now }
     {
@@ -41,7 +41,7 @@ impl<'a> Written<'a> {
     }
 }
 
-/// These bytes in a form; where the attributes of a file are given that is to be like, in the form of its records.
+/// Returns these bytes in a form. The attributes of a model file, if given, determine the form of the records.
 pub(crate) fn write_host<'a>(
     alloc: Global,
     form: PutForm,
@@ -183,7 +183,7 @@ fn records_like(own: [u8; 32], like: &Option<[u8; 32]>) -> [u8; 32]
     }
 }
 
-/// Whether the last line has no LF.
+/// Returns whether the last line has no LF.
 pub(crate) fn lacks_last_lf(bytes: &[u8]) -> bool
     ensures { IsTrue result ↔ IsUnended bytes.now }
 {

@@ -1,4 +1,4 @@
--- Versions, and the rule over them: each list that a place has seen begins the list that leads to the published version.
+-- Versions, and the rule over them: each list that a reader has seen is a prefix of the list that produces the published version.
 use Rattle.std.specs.Prelude.{◌≡◌, ℕ, ◌<◌, ◌≤◌, List, [], ◌∷◌, ◌++◌, length, Some, Result, IsSome, MatchResult}
 use mathlib.Core.Option.{some}
 use lib.ListN.{get_elem?}
@@ -23,43 +23,43 @@ use Rattle.ods_views.specs.declared.version.Version.{Version}
 use Rattle.ods_views.specs.declared.version.Change.{Change}
 use Rattle.ods_views.specs.declared.rule.View.{View}
 
--- the version that a change leads to
+-- the version after a change
 abbrev pub led_on : Version → Change → Version
 led_on v c = record { image = applied v.image c.draft; layout = with_places v.layout c.places.items; count = c.count }
 
--- what a new place knows
+-- what a new reader knows
 abbrev pub newcomer : List Entry → View
 newcomer opening = record { seen = opening }
 
--- there is one list of entries, which leads from the mounted image to the published version, is as long as it says, and begins with the
--- opening and with all that any place has seen
+-- One list of entries produces the published version from the mounted image. Its length is the count of the version. It begins with the opening list
+-- and with every list that a reader has seen.
 abbrev pub Keeps : List (List ℕ) → List Entry → Version → List View → Type 0
 Keeps mounted opening x views =
     (log : List Entry) × IsVersionBy mounted log x.image x.layout × (length log ≡ x.count) × Begins opening log
     × ((place : ℕ) (v : View) → get_elem? views place ≡ some v → Begins v.seen log)
 
--- by the replay of the list: the fault, or an answer that is a step
+-- the result by the replay of the list: the fault, or an answer that is a step
 abbrev pub AnswersBy : List (List ℕ) → List Entry → Uic → Query → Result Answer Refusal → Type 0
 AnswersBy M E who q answer = (C : Catalogue) → IsReplay M E C →
     MatchResult answer (λ a. IsSome (step C who (request_of q) a)) (λ f. fault_of C who (request_of q) ≡ Some f)
 
--- what the blocks of a version answer is what its list answers
+-- the result by the blocks of a version is the result by its list
 abbrev pub AnswersByTheList : Type 0
 AnswersByTheList = (M : List (List ℕ)) (E : List Entry) (V : List (List ℕ)) (L : VolumeLayout) (who : Uic) (q : Query) (answer : Result Answer Refusal)
     → IsVersionBy M E V L → MatchResult answer (IsAnsweredBy V L who (request_of q)) (IsRefusalOf V L who (request_of q)) → AnswersBy M E who q answer
 
--- a look: the list is then the published one, which begins with all that was known, and leads to the blocks that are read
+-- a look: the list is then the published one, which begins with all entries seen before, and produces the blocks that are read
 abbrev pub Looked : List (List ℕ) → View → Version → Version → View → Type 0
 Looked mounted v x y w = Begins v.seen w.seen × (length w.seen ≡ y.count) × IsVersionBy mounted w.seen y.image y.layout
 
--- the same where the list has so many entries. Else nothing is learnt
+-- the same if the list has at least `least` entries. Otherwise the view is unchanged
 abbrev pub LookedFrom : ℕ → List (List ℕ) → View → Version → Version → View → Type 0
 LookedFrom least mounted v x y w = (least ≤ y.count → Looked mounted v x y w) × (y.count < least → w ≡ v)
 
--- a publishing: the list is then one entry longer
+-- a publication: the list is then one entry longer
 abbrev pub Added : Entry → View → Version → Version → View → Type 0
 Added e v x y w = w ≡ newcomer (v.seen ++ e ∷ [])
 
--- what stands for an entry that is not picked
+-- the placeholder for an entry that is not picked
 abbrev pub no_entry : Entry
 no_entry = record { session = 0; nth = 0; who = record { group = 0; member = 0 }; request = request.List (record { number = 0; sequence = 0 }); answer = answer.Done }

@@ -1,7 +1,7 @@
-//! The law that the blocks of a version answer a query as its list of entries does.
+//! The law that the blocks of a version give the same result for a query as its list of entries.
 ghost use Rattle.ods_views.specs.Versions.{AnswersByTheList};
 
-/// What a version answers is what its list of requests answers.
+/// The result of a query on a version equals its result by the list of requests.
 pub fn answers_by_the_list()
     ensures { AnswersByTheList }
 {}

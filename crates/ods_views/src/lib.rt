@@ -1,5 +1,5 @@
-//! Versions of a volume for readers. A version is a value, an operation leads to the next one, and a rule holds over all of them.
-//! Viewers look at them beside the lock, and the writer shows them.
+//! Versions of a volume for readers. A version is a value, and an operation turns it into the next one. A rule holds over all versions. Viewers read
+//! versions without the lock, and the writer publishes them.
 #![tactic(auto)]
 
 mod laws;

@@ -1,8 +1,8 @@
-//! The name of a desk, by which contracts know its mounted image, its opening list and its limit wherever the desk lies.
+//! The name of a desk. By it contracts know the mounted image, the opening list and the limit of a desk.
 use std::marker::Brand;
 
-/// The name of a desk: which image was mounted, which entries there were when the desk was opened, and how many there may be. Only
-/// contracts see it. A program picks it where it opens a desk; no value of it is made.
+/// The name of a desk: the mounted image, the entries when the desk was opened, and the highest number of entries. Only contracts see it. A program
+/// picks the name when it opens a desk. No value of this type is made.
 pub trait Naming {
     ghost use Rattle.std.specs.Prelude.{List, ℕ};
     ghost use Rattle.ods_request.specs.declared.answers.Entry.{Entry};

@@ -1,4 +1,4 @@
-//! The rule over the published version and over what each place knows: all lists are beginnings of one list.
+//! The rule over the published version and over what each reader knows: all lists are prefixes of one list.
 use crate::naming::Naming;
 use crate::version::Version;
 use crossbeam_utils::rule::{Outcome, Protocol};
@@ -6,13 +6,13 @@ use ods_request::Entry;
 use std::collections::LinkedList;
 use std::marker::{Brand, PhantomData};
 
-/// What a place knows: the entries that it has seen. No value of it is made.
+/// The entries that a reader, or the writer, has seen. No value of it is made.
 pub struct View {
     pub seen: LinkedList<Entry>,
 }
 
-/// The rule for the desk of this name. No value of it is made. One list of entries leads from the mounted image to the
-/// published version. It begins with the entries of the desk's name and with all that any viewer has seen.
+/// The rule for the desk of this name. No value of it is made. One list of entries reaches the published version from the mounted image. It begins
+/// with the entries of the desk's name and with all entries that any viewer has seen.
 pub struct Lists<J> {
     of: PhantomData<J>,
 }
@@ -25,7 +25,7 @@ impl<J: Naming> Protocol<Version, View> for Lists<J> {
     ghost first = { newcomer J.opening };
 }
 
-/// Which entry a step adds.
+/// The entry that a step adds.
 pub trait Adding {
     ghost use Rattle.ods_request.specs.declared.answers.Entry.{Entry};
 
@@ -38,7 +38,7 @@ impl Adding for Brand {
     ghost entry = { no_entry };
 }
 
-/// How many entries a look asks for.
+/// The number of entries that a look requires.
 pub trait Asking {
     ghost use Rattle.std.specs.Prelude.{ℕ};
 
@@ -49,7 +49,7 @@ impl Asking for Brand {
     ghost least = { 0 };
 }
 
-/// A viewer's step: its list becomes the published one.
+/// A step of a viewer: its list becomes the published list.
 pub struct Looks<J, N> {
     of: PhantomData<(J, N)>,
 }
@@ -60,7 +60,7 @@ impl<J: Naming, N: Asking> Outcome<Version, View> for Looks<J, N> {
     ghost then = { LookedFrom N.least J.mounted };
 }
 
-/// The desk's step: the published list gains an entry.
+/// A step of the desk: the published list gains one entry.
 pub struct Adds<N> {
     of: PhantomData<N>,
 }

@@ -8,7 +8,7 @@ use ods_volume::Volume;
 use std::marker::{Model, PhantomData};
 use std::snapshot::Snapshot;
 
-/// The list of a desk of this name as it stood after a request, accepted or refused. Contracts see the list; the value has only its length.
+/// The list of a desk of this name after a request, accepted or refused. Contracts see the list; the value has only its length.
 #[derive(Drop)]
 pub struct Told<J: Naming> {
     entries: u32,
@@ -29,7 +29,7 @@ impl<J: Naming> Model for Told<J> {
 }
 
 impl<J: Naming> Told<J> {
-    /// The list of this volume, which is one of the desk's name. A desk makes it, for its callers.
+    /// Returns the list of this volume, which belongs to the desk of this name. A desk calls it for its callers.
     pub fn of(volume: &Volume) -> Told<J>
         requires { IsOpened J.mounted J.opening volume.now }
         ensures { result ≡ volume.now.entries }
@@ -42,7 +42,7 @@ impl<J: Naming> Told<J> {
         }
     }
 
-    /// How many entries the list had. It leads on from the mounted image, and begins as the desk's list did.
+    /// Returns the number of entries of the list. The list has a replay from the mounted image, and begins with the opening list of the desk.
     pub fn entries(&self) -> u32
         ensures count { result ≡ length self.now }
         ensures leads { LeadsOn J.mounted self.now }
@@ -52,7 +52,7 @@ impl<J: Naming> Told<J> {
     }
 }
 
-/// How many requests the volume accepted: no more than its limit.
+/// Returns the number of requests that the volume accepted. It is at most the limit of the volume.
 pub fn entry_count(volume: &Volume) -> u32
     ensures { result ≡ length volume.now.entries }
 {

@@ -1,4 +1,4 @@
-//! Versions, which readers take: the blocks of one moment with their layout, and how many entries led to them.
+//! Versions for readers: the blocks at one moment with their layout, and the number of entries that produced them.
 ghost use Rattle.ods_views.specs.Versions.{led_on};
 
 use left_right::Absorb;
@@ -6,16 +6,16 @@ use ods_base::Image;
 use ods_space::{Draft, Layout};
 use std::alloc::AllocError;
 
-/// A version of a volume. Two of them are kept, one of which is shown.
+/// A version of a volume. A desk keeps two of them, and shows one.
 #[derive(Drop)]
 pub struct Version {
     pub image: Image,
     pub layout: Layout,
-    /// How many entries led to these blocks.
+    /// The number of entries that produced these blocks.
     pub count: u64,
 }
 
-/// The change of one accepted entry: the blocks that it changes, those that INDEXF.SYS gets, and how many entries there are with it.
+/// The change of one accepted entry: the changed blocks, the LBNs that INDEXF.SYS gains, and the number of entries including this one.
 #[derive(Drop)]
 pub struct Change {
     pub draft: Draft,

@@ -18,16 +18,16 @@ use std::alloc::{AllocError, Global};
 use std::marker::{Brand, Model};
 use thiserror::Error;
 
-/// A reader's place at the versions of a desk with this name.
+/// A reader of the versions of a desk with this name.
 pub type DeskReader<J> = Reader<Version, View, Lists<J>>;
 
-/// Why a viewer does not answer a query.
+/// The reason why a viewer does not answer a query.
 #[derive(Clone, Copy, PartialEq, Eq, Debug, Error)]
 pub enum ViewFault {
     /// The first fault of the query, by the list that the viewer then has.
     #[error("{0}")]
     Refused(Refusal),
-    /// There is no version to look at any more, or none with so many entries as the viewer was told of.
+    /// There is no version left to read, or the published version has fewer entries than the viewer has learned of.
     #[error("Closed")]
     Closed,
 }
@@ -43,8 +43,8 @@ impl Coded for ViewFault {
     ghost row_of = { view_row };
 }
 
-/// Looks at the volume of a desk with this name, beside the lock. Contracts see the entries that it has seen, and of how many it was told. One without
-/// a place has nothing to look at, and answers Closed.
+/// A viewer of the volume of a desk with this name. It takes no lock. Contracts see the entries that it has seen, and the number of entries that it
+/// has learned of. A viewer without a reader has no version to read, and replies Closed.
 #[derive(Drop)]
 pub struct Viewer<J: Naming> {
     reader: Option<DeskReader<J>>,
@@ -61,7 +61,7 @@ impl<J: Naming> Model for Viewer<J> {
 }
 
 impl<J: Naming> Viewer<J> {
-    /// The viewer at a new place of this writer's desk.
+    /// The viewer with a new reader of this writer's desk.
     fn beside(writer: &DeskWriter<J>) -> Result<Viewer<J>, AllocError>
         ensures { IfOk result (λ v. v ≡ newly J.opening) }
     {
@@ -71,7 +71,7 @@ impl<J: Naming> Viewer<J> {
         })
     }
 
-    /// A viewer without a place, for a run in which nobody looks.
+    /// Returns a viewer without a reader, for a run in which no session looks.
     pub fn without_place() -> Viewer<J>
         ensures { result ≡ newly J.opening }
     {
@@ -82,17 +82,17 @@ impl<J: Naming> Viewer<J> {
         }
     }
 
-    /// From now on it answers from no fewer entries than it was told of: there are so many in the list that it then has seen.
-    /// A viewer that learns of more entries than its desk ever has answers Closed from then on.
+    /// Notes that the desk's list has at least the entries of `told`. From then on the viewer answers only from a version with at least as many
+    /// entries. A viewer that learns of more entries than its desk ever has replies Closed from then on.
     pub fn learn(&mut self, told: Told<J>)
         ensures { self.new ≡ record self.old { least = max self.old.least (length told) } }
     {
         self.least = self.least.max(u64::from(told.entries()));
     }
 
-    /// Answers from the version that is published now. It waits for nobody and takes no memory. The answer is moved once, when it is given back.
-    /// The entries that it has seen then begin with those that it had seen before. They are at least as many as it was
-    /// told of. After Closed the viewer is as it was.
+    /// Answers a query from the version that is published now. It waits for no other thread and takes no memory. It moves the answer once, when it
+    /// returns. After an answer or a refusal, the list of the viewer begins with the entries that it had seen before. The list has at least as many
+    /// entries as the viewer has learned of. After Closed the viewer is unchanged.
     pub fn ask(&mut self, who: Uic, query: Query) -> Result<Answer, ViewFault>
         ensures later { Begins self.old.seen self.new.seen }
         ensures least { self.new.least ≡ self.old.least }
@@ -108,8 +108,8 @@ impl<J: Naming> Viewer<J> {
         result
     }
 
-    /// Does what [`Viewer::ask`] does, and writes the answer into its place, which stays as it was where there is none.
-    /// Out of line it has no answer of its own; within its caller LLVM makes room for two more.
+    /// Does the same as [`Viewer::ask`], and writes the answer into `answer`. After an error `answer` is unchanged. The function is not inlined: out
+    /// of line it has no answer of its own, and inlined LLVM would reserve room for two more in its caller.
     #[inline(never)]
     pub fn ask_into(&mut self, who: Uic, query: Query, answer: &mut Answer) -> Result<(), ViewFault>
         ensures later { Begins self.old.seen self.new.seen }
@@ -147,8 +147,8 @@ impl<J: Naming> Viewer<J> {
     }
 }
 
-/// A viewer for each of so many places of this writer's desk, which has seen the opening list. It was told of nothing
-/// yet.
+/// Returns `places` viewers of this writer's desk, each with a reader of its own. Each has seen the opening list, and has learned of no entries yet.
+/// It fails only when out of memory.
 pub fn make_viewers<J: Naming>(
     alloc: Global,
     writer: &DeskWriter<J>,

@@ -1,4 +1,4 @@
-//! The writer of a desk: how it begins, gets a change and shows it.
+//! The writer of a desk: how it begins, takes a change and publishes it.
 ghost use Rattle.std.specs.Prelude.{◌≡◌, ◌<◌, ◌≤◌, ◌∷◌, [], drop, length, IfOk, MatchResult};
 ghost use Rattle.ods_views.specs.Viewers.{IsOneOn, IsTied, LeadsTo, seen_by};
 
@@ -11,13 +11,13 @@ use std::alloc::{AllocError, Global};
 use std::snapshot::Snapshot;
 use std::sync::Wait;
 
-/// At most so many sessions sit at a desk.
+/// The highest number of sessions at a desk.
 pub const MOST_SESSIONS: usize = 8;
 
 /// The writer of a desk with this name.
 pub type DeskWriter<J> = Writer<Version, Change, View, Lists<J>>;
 
-/// The writer over two copies of the volume's blocks. It shows the volume, and no change is pending.
+/// Returns the writer over two copies of the volume's blocks. It shows the volume, and no change is pending. It fails only when out of memory.
 pub fn open_writer<J: Naming>(
     alloc: Global,
     volume: &Volume,
@@ -48,7 +48,7 @@ pub fn open_writer<J: Naming>(
     )
 }
 
-/// The writer with this change pending, or as it was where there is no memory.
+/// Adds this pending change to the writer. When out of memory, it returns the writer unchanged.
 pub fn add_change<J: Naming>(
     writer: DeskWriter<J>,
     change: Change,
@@ -64,8 +64,8 @@ pub fn add_change<J: Naming>(
     }
 }
 
-/// Shows the pending change, which leads to the blocks of this volume, whose last entry this plan has. Then the writer
-/// shows the volume, and no change is pending.
+/// Publishes the pending change, which produces the blocks of this volume. `plan` has the last entry of the volume. Afterwards the writer shows the
+/// volume, and no change is pending.
 pub fn publish_change<J: Naming, N: Adding, R: Wait>(
     rt: &R,
     writer: DeskWriter<J>,

@@ -1,4 +1,5 @@
--- What changes that no request asks for make of a sound volume: another owner, protection or characteristics of a file, another label, other bits of the storage bitmap.
+-- The changes of a sound volume that no request makes: another owner, protection or characteristics of a file, another label, other bits of the
+-- storage bitmap.
 use Rattle.std.specs.Prelude.{ℕ, Bool, List, Option}
 use Rattle.ods_base.specs.declared.file_id.FileId.{FileId}
 use Rattle.ods_base.specs.declared.file_id.Uic.{Uic}
@@ -9,21 +10,21 @@ use Rattle.ods_amend.specs.Bits.{MarksAs}
 use Rattle.ods_amend.specs.Label.{Relabels}
 use Rattle.ods_volume.specs.Changing.{IsLawfulChange, Parts, changed}
 
--- The change gives a file this owner, this protection and these characteristics, each where it is given, for a user.
+-- The change sets this owner, this protection and these characteristics of a file, each if given, for a user.
 pub record IsChangeOfAccess (D : Disk) (who : Uic) (id : FileId) (owner : Option Uic) (protection flags : Option ℕ) (p : Parts) : Type 0 where
   pub given : GivesAll D who id owner protection flags (changed D p)
   pub lawful : IsLawfulChange D p
 
--- why a user may not, or cannot: the first fault by each catalogue that the blocks show, or want of memory
+-- why the user may not, or cannot: the first fault by each catalogue that the blocks show, or out of memory
 abbrev pub IsWhyNotGiven : Disk → Uic → FileId → Refusal → Type 0
 IsWhyNotGiven D who id f = IsNotGiven D.image D.layout who id f
 
--- The change gives the volume this label.
+-- The change sets this label of the volume.
 pub record IsChangeOfLabel (D : Disk) (label : List ℕ) (p : Parts) : Type 0 where
   pub given : Relabels D label (changed D p)
   pub lawful : IsLawfulChange D p
 
--- The change has the storage bitmap say of these blocks that they are free, or taken.
+-- The change marks these blocks as free, or as in use, in the storage bitmap.
 pub record IsChangeOfMarks (D : Disk) (blocks : List ℕ) (free : Bool) (p : Parts) : Type 0 where
   pub marked : MarksAs D blocks free (changed D p)
   pub lawful : IsLawfulChange D p

@@ -1,4 +1,4 @@
--- What a request makes of a sound volume that keeps no list.
+-- The change of a sound volume without a list by a request.
 use Rattle.std.specs.Prelude.{◌≡◌, ℕ, true, List, Option}
 use Rattle.ods_base.specs.declared.file_id.Uic.{Uic}
 use Rattle.ods_space.specs.Draft.{Changes, applied}
@@ -18,15 +18,15 @@ use Rattle.ods_volume.specs.Ends.{AreKnownIn, falls_for, stays}
 use Rattle.ods_volume.specs.Struck.{Strikes}
 use Rattle.ods_change.specs.IndexGrown.{IsIndexGrown, IsWhyNoHeaders}
 
--- the volume is sound, these are its counts, and what is noted of where chains of files end and of the names of a directory is true of it
+-- the volume is sound, these are its counts, and the notes of ends of chains and of the names of a directory are true
 pub record IsNoted (D : Disk) (counts : Counts) (ends : List (Option KnownEnd)) (names : Option KnownNames) : Type 0 where
   pub sound : IsSoundBy D.image D.layout
   pub counted : counts ≡ counts_of D.image D.layout
   pub ended : AreKnownIn D.image D.layout ends
   pub named : MayBeKnown D.image D.layout names
 
--- The blocks that a change writes, those that INDEXF.SYS gets, and the counts of the bitmaps afterwards, where they are made anew. Where the chain of its file ends then, if it says so,
--- and what it makes untrue of what is noted.
+-- The parts of a change: the blocks that it writes, the LBNs that INDEXF.SYS gains, and the new counts of the bitmaps if they change. It has the end
+-- of the chain of its file, if known, and the notes that it invalidates.
 pub record Parts : Type 0 where
   pub changes : Changes
   pub places : List ℕ
@@ -38,11 +38,12 @@ pub record Parts : Type 0 where
 abbrev pub changed : Disk → Parts → Disk
 changed D p = record { image = applied D.image p.changes; layout = with_places D.layout p.places }
 
--- E is what a request, answered so, makes of the volume D
+-- E is the volume D after a request with this answer
 abbrev pub IsStep : Disk → Uic → Request → Answer → Disk → Type 0
 IsStep D who r a E = IsStepOf D.image D.layout who r a E.image E.layout
 
--- The change leaves a sound volume, and its counts and what it says of where a chain ends are true of what it leaves. What stays noted is true still, and files have the blocks that they had.
+-- The change leaves a sound volume, and its counts and its end of a chain are true of that volume. The notes that stay are still true, and the files
+-- keep their blocks as `Strikes` states.
 pub record IsLawfulChange (D : Disk) (p : Parts) : Type 0 where
   pub sound : IsSoundBy (applied D.image p.changes) (with_places D.layout p.places)
   pub counted : AreCountsAfter D.image (applied D.image p.changes) D.layout p.counts
@@ -50,21 +51,21 @@ pub record IsLawfulChange (D : Disk) (p : Parts) : Type 0 where
   pub kept : (end : KnownEnd) → stays p.falls end.file ≡ true → IsEndKnown D.image D.layout end → IsEndKnown (applied D.image p.changes) (with_places D.layout p.places) end
   pub struck : Strikes D.image D.layout (applied D.image p.changes) (with_places D.layout p.places) p.falls
 
--- The change is what a request, answered so, makes of the volume.
+-- The change is the effect of a request with this answer on the volume.
 pub record IsChangeFor (D : Disk) (who : Uic) (r : Request) (a : Answer) (p : Parts) : Type 0 where
   pub step : IsStep D who r a (changed D p)
   pub lawful : IsLawfulChange D p
   pub falls : p.falls ≡ falls_for r a
 
--- E is the volume D where INDEXF.SYS has headers for so many files more, and nothing else was done
+-- E is the volume D after INDEXF.SYS gained headers for `count` more files, with no other change
 abbrev pub HasMoreHeaders : Disk → ℕ → Disk → Type 0
 HasMoreHeaders D count E = IsIndexGrown D.image D.layout count E.image E.layout
 
--- why it cannot have them: there is no memory, or what it takes is not there
+-- why it cannot have them: out of memory, or not enough blocks or numbers
 abbrev pub IsWhyNoMore : Disk → ℕ → Refusal → Type 0
 IsWhyNoMore D count f = IsWhyNoHeaders D.image D.layout count f
 
--- The change makes that of the volume.
+-- The change has this effect on the volume.
 pub record IsChangeOfHeaders (D : Disk) (count : ℕ) (p : Parts) : Type 0 where
   pub grown : HasMoreHeaders D count (changed D p)
   pub lawful : IsLawfulChange D p

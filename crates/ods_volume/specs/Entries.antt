@@ -1,4 +1,4 @@
--- The form of a list of accepted requests: a row for each entry, and two pools beside the rows for large answers.
+-- The form of a list of accepted requests: a row for each entry, and two pools next to the rows for large answers.
 use Rattle.std.specs.Prelude.{◌≡◌, ℕ, ◌<◌, ◌≤◌, List, [], ◌++◌, All, length, slice_index_or}
 use Rattle.ods_request.specs.declared.answers.Answer.{Answer}
 use Rattle.ods_request.specs.declared.answers.Answer.TheVariants as answer
@@ -9,12 +9,12 @@ use Rattle.ods_volume.specs.declared.entries.EntryRow.{EntryRow}
 use Rattle.ods_volume.specs.declared.entries.RowAnswer.{RowAnswer}
 use Rattle.ods_volume.specs.declared.entries.RowAnswer.TheVariants as row
 
--- what contracts see of a list: its entries, and for how many it has memory
+-- what contracts see of a list: its entries, and the number of entries for which it has memory
 pub record EntryList : Type 0 where
   pub items : List Entry
   pub room : ℕ
 
--- what a pool is said to hold where it holds nothing; no row asks for it
+-- the value of a pool past its end; no row refers to it
 pub no_stat : Stat
 no_stat = record { file = record { number = 0; sequence = 0 }; ident = []; owner = record { group = 0; member = 0 }; protection = 0; user_char = 0; system_char = 0; kind = System }
 
@@ -35,13 +35,13 @@ answer_in blocks stats (row.Info at) = answer.Info (slice_index_or stats at no_s
 abbrev pub entry_in : List (List ℕ) → List Stat → EntryRow → Entry
 entry_in blocks stats r = record { session = r.session; nth = r.nth; who = r.who; request = r.request; answer = answer_in blocks stats r.answer }
 
--- a row names only what is in pools of these lengths
+-- a row refers only to indexes in pools of these lengths
 abbrev pub IsWithin : ℕ → ℕ → RowAnswer → Type 0
 IsWithin blocks stats (row.Bytes at) = at < blocks
 IsWithin blocks stats (row.Info at) = at < stats
 IsWithin blocks stats _ = Unit {0}
 
--- each row is within the pools, of which no one holds more than there are rows, or has less room
+-- each row is within the pools; no pool holds more than there are rows, or has less room
 pub record IsPooled (rows : List EntryRow) (blocks : List (List ℕ)) (stats : List Stat) (room block_room stat_room : ℕ) : Type 0 where
   pub within : All (λ (r : EntryRow). IsWithin (length blocks) (length stats) r.answer) rows
   pub blocks_few : length blocks ≤ length rows

@@ -1,4 +1,4 @@
--- The parts of a volume, and what it keeps beside what contracts see: reserved memory for its list.
+-- The parts of a volume, and what it keeps in addition to what contracts see: reserved memory for its list.
 use Rattle.std.specs.Prelude.{◌≡◌, ℕ, ◌≤◌, List, Option, MatchOption}
 use Rattle.ods_base.specs.declared.listed.Listed.{Listed}
 use Rattle.ods_request.specs.declared.answers.Answer.{Answer}
@@ -18,6 +18,6 @@ pub record IsKept (v : State) (room : ℕ) : Type 0 where
   pub high : v.limit ≤ 65536
   pub reserved : v.limit ≤ room
 
--- the lines of an answer, where it has lines
+-- the lines of an answer, if it has lines
 abbrev pub AreLinesOf : Answer → Option (List Listed) → Type 0
 AreLinesOf a lines = MatchOption lines (¬ HasLines a) (λ l. a ≡ Names l)

@@ -1,4 +1,4 @@
--- The answers of changes, and what they say of where a chain ends.
+-- The answers of changes, and the ends of chains that they give.
 use Rattle.std.specs.Prelude.{Option, None, Some}
 use Rattle.ods_request.specs.declared.answers.Answer.{Answer}
 use Rattle.ods_request.specs.declared.answers.Answer.TheVariants as answer
@@ -15,7 +15,7 @@ answer_of Done = answer.Done
 answer_of (Entered version) = answer.Entered version
 answer_of (Removed file version) = answer.Removed file version
 
--- What a change says of where a chain ends: an Extend says it of its file, and a Truncate may.
+-- The end of a chain that a change gives: an Extend gives that of its file, and a Truncate may.
 abbrev pub end_of : Made → Option KnownEnd
 end_of (Created file) = None
 end_of (Extended end) = Some end

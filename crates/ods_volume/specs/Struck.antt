@@ -1,4 +1,4 @@
--- What a change leaves of the blocks of a directory that is noted.
+-- What a change leaves of the blocks of a noted directory.
 use Rattle.std.specs.Prelude.{⊤, ◌≡◌, ◌≢◌, ◌<◌, ◌==◌, ℕ, Bool, true, false, not, List, length, take}
 use Rattle.ods_space.specs.Files.{HasBlocks}
 use Rattle.ods_space.specs.Layout.{VolumeLayout}
@@ -10,30 +10,31 @@ use Rattle.ods_state.specs.declared.known_names.KnownNames.{KnownNames}
 use Rattle.ods_volume.specs.declared.ends.Falls.{Falls}
 use Rattle.ods_volume.specs.declared.ends.Falls.TheVariants.{Nothing, File, Growth, Everything}
 
--- the file has these blocks then, said by the double negation
+-- the file has these blocks after the change, stated as a double negation
 abbrev pub StillHas : List (List ℕ) → VolumeLayout → ℕ → List ℕ → Type 0
 StillHas J M f blocks = ¬ (¬ HasBlocks J M f blocks)
 
--- and their bytes are as they were
+-- and their bytes are unchanged
 abbrev pub IsSpared : List (List ℕ) → List (List ℕ) → VolumeLayout → ℕ → List ℕ → Type 0
 IsSpared I J M f blocks = StillHas J M f blocks × (contents_of J blocks ≡ contents_of I blocks)
 
--- whatever blocks the file has then, these are the first of them
+-- whatever blocks the file has after the change, these are its first blocks
 abbrev pub BeginsWith : List (List ℕ) → VolumeLayout → ℕ → List ℕ → Type 0
 BeginsWith J M f blocks = (held : List ℕ) → HasBlocks J M f held → take (length blocks) held ≡ blocks
 
--- What a change leaves of file f, which had these blocks: where no chain changes it still has them, though their bytes may change. A change of another file's chain spares it.
+-- What a change leaves of file f, which had these blocks. If no chain changes, the file still has them, though their bytes may change. A change of
+-- another file's chain spares it.
 abbrev pub IsStruck : List (List ℕ) → List (List ℕ) → VolumeLayout → Falls → ℕ → List ℕ → Type 0
 IsStruck I J M Nothing f blocks = StillHas J M f blocks
 IsStruck I J M (File n) f blocks = f ≢ n → IsSpared I J M f blocks
 IsStruck I J M (Growth n) f blocks = (f ≢ n → IsSpared I J M f blocks) × BeginsWith J M f blocks
 IsStruck I J M Everything f blocks = ⊤
 
--- so it is of each file that may be noted
+-- this holds for each file that may be noted
 abbrev pub Strikes : List (List ℕ) → VolumeLayout → List (List ℕ) → VolumeLayout → Falls → Type 0
 Strikes I L J M falls = (f : ℕ) (blocks : List ℕ) → f ≢ 1 → f ≢ 2 → 0 < length blocks → HasBlocks I L f blocks → IsStruck I J M falls f blocks
 
--- whether a change leaves file f with the blocks that it had, or with one more
+-- whether a change leaves file f with its blocks, or with one more
 abbrev pub is_left : Falls → ℕ → Bool
 is_left Nothing f = true
 is_left (File n) f = not (f == n)
@@ -47,14 +48,14 @@ is_spared (File n) f = not (f == n)
 is_spared (Growth n) f = not (f == n)
 is_spared Everything f = false
 
--- whether the file may get a block
+-- whether the file may gain a block
 abbrev pub may_grow : Falls → ℕ → Bool
 may_grow Nothing f = false
 may_grow (File n) f = false
 may_grow (Growth n) f = f == n
 may_grow Everything f = false
 
--- What is noted of a directory whose chain is not looked at yet: the file has these blocks, or begins with them where it may have got one.
+-- The notes of a directory whose chain is not checked yet: the file has these blocks, or begins with them if it may have gained one.
 pub record AreThen (J : List (List ℕ)) (M : VolumeLayout) (falls : Falls) (f : ℕ) (blocks : List ℕ) (tags : List (List ℕ)) : Type 0 where
   pub index : f ≢ 1
   pub bitmap : f ≢ 2
@@ -66,7 +67,7 @@ pub record AreThen (J : List (List ℕ)) (M : VolumeLayout) (falls : Falls) (f :
 abbrev pub AreNamesThen : List (List ℕ) → VolumeLayout → Falls → KnownNames → Type 0
 AreNamesThen J M falls names = AreThen J M falls names.file names.blocks.items names.tags.items
 
--- the number of the directory whose names a request looks at, or 0
+-- the number of the directory whose names a request reads, or 0
 abbrev pub directory_of : Request → ℕ
 directory_of (LookUp dir name pick) = dir.number
 directory_of (Enter dir name version file) = dir.number

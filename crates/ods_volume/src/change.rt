@@ -11,8 +11,9 @@ use ods_base::Uic;
 use ods_request::{Answer, CompactAnswer, CompactRequest, Entry, Listing, Refusal, Request};
 
 impl Volume {
-    /// What a request would do, with all the memory that it takes: where it is given, the change itself takes none. The
-    /// volume does not change.
+    /// Prepares a request: returns its plan, with all the memory that its change takes. [`Volume::apply`] then takes memory at most to note a
+    /// directory. The volume is unchanged. At the limit of the list the refusal is ListFull. Otherwise it is the first fault for the present
+    /// catalogue, a lack of the volume, or NoMemory.
     pub fn prepare(
         &self,
         session: u16,
@@ -37,8 +38,7 @@ impl Volume {
         self.plan(session, nth, who, &request)
     }
 
-    /// What a request would do, as [`Volume::prepare`] says. The list is to share a Write's block with
-    /// the request that is given.
+    /// Prepares a request as [`Volume::prepare`] does. The list is to share the block of a Write with the given request.
     pub fn prepare_shared(
         &self,
         session: u16,
@@ -109,8 +109,8 @@ impl Volume {
         Ok((kept, change))
     }
 
-    /// Makes a change that was prepared for this volume as it is, puts its entry into the list and gives its answer. It never
-    /// fails, and takes memory at most to note a directory. The answer is read from the list last, so that it is made in one place.
+    /// Applies a change that was prepared for this volume as it is now, appends its entry to the list and returns its answer. It never fails, and
+    /// takes memory at most to note a directory. It reads the answer from the list last, so that only one copy is made.
     pub fn apply(&mut self, prepared: Prepared) -> Answer
         requires { IsLawfulPlan self.old prepared }
         ensures changed { self.new ≡ carried_out self.old prepared }
@@ -167,8 +167,8 @@ impl Volume {
         self.sound.apply(change);
     }
 
-    /// Prepares a request and makes its change, as [`Volume::request`] does. The list shares a Write's block with the request that is given. The answer
-    /// comes in little room: what it takes of memory is taken before the change, so any request may be refused for want of memory, after its faults.
+    /// Prepares a request and makes its change, as [`Volume::request`] does. The list shares the block of a Write with the given request. The answer
+    /// is compact. The memory of the answer is taken before the change, so any request may be refused with NoMemory, after its other faults.
     pub fn request_shared(
         &mut self,
         session: u16,
@@ -193,8 +193,8 @@ impl Volume {
         Ok(given)
     }
 
-    /// Prepares a request and makes its change. At the limit the answer is ListFull. After a refusal nothing has
-    /// changed.
+    /// Prepares a request and makes its change. At the limit of the list the refusal is ListFull. Otherwise it is the first fault for the present
+    /// catalogue, a lack of the volume, or NoMemory. After a refusal the volume is unchanged.
     pub fn request(
         &mut self,
         session: u16,

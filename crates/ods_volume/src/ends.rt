@@ -1,4 +1,4 @@
-//! Where the chains of some files end, as a volume notes it from one request to the next.
+//! The ends of the chains of some files, which a volume notes from one request to the next.
 ghost use Rattle.std.specs.Prelude.{◌≡◌, ◌<◌, ◌≢◌, ℕ, List, None, Some, IfSome, map, slice_get};
 ghost use Rattle.std.specs.List.{All, Contains};
 ghost use Rattle.ods_volume.specs.Ends.{AreNotedThen, IsNotOf, IsOneMore, falls_for, kept_by, stays};
@@ -6,25 +6,25 @@ ghost use Rattle.ods_volume.specs.Ends.{AreNotedThen, IsNotOf, IsOneMore, falls_
 use ods_request::{Answer, Request};
 use ods_state::KnownEnd;
 
-/// Which of what is noted a change makes untrue.
+/// The notes that a change invalidates.
 #[derive(Clone, Copy)]
 pub(crate) enum Falls {
     Nothing,
-    /// What is noted of the file with this number, whose chain changes, and of INDEXF.SYS, which may grow.
+    /// The notes of the file with this number, whose chain changes, and of INDEXF.SYS, which may grow.
     File(u16),
-    /// The same, where the file may get a block behind its own, and no other change of its chain.
+    /// The same, but the file may only gain a block after its own, without another change of its chain.
     Growth(u16),
     Everything,
 }
 
-/// Where the chains of up to eight files end. It takes no memory of its own.
+/// The ends of the chains of up to eight files. It takes no memory of its own.
 #[derive(Clone, Copy)]
 pub(crate) struct KnownEnds {
     ends: [Option<KnownEnd>; 8],
     next: usize,
 }
 
-/// What a request, answered so, makes untrue.
+/// Returns the notes that a request with this answer invalidates.
 pub(crate) fn falls_for(request: &Request, answer: &Answer) -> Falls
     ensures { result ≡ falls_for request.now answer.now }
 {
@@ -69,7 +69,7 @@ fn kept_by(falls: Falls, noted: Option<KnownEnd>) -> Option<KnownEnd>
 }
 
 impl KnownEnds {
-    /// Nothing is noted.
+    /// Returns a table without notes.
     pub(crate) fn new() -> KnownEnds
         ensures { All (λ noted. noted ≡ None) result.ends }
     {
@@ -79,7 +79,7 @@ impl KnownEnds {
         }
     }
 
-    /// What is noted of this file, if anything is.
+    /// Returns the note of this file, if there is one.
     pub(crate) fn of(&self, file: u16) -> Option<KnownEnd>
         ensures some { IfSome result (λ end. (end.file ≡ file) × Contains self.now.ends (Some end)) }
         ensures none { result ≡ None → All (IsNotOf file) self.now.ends }
@@ -94,8 +94,8 @@ impl KnownEnds {
         None
     }
 
-    /// What a change makes untrue is noted no more; where the chain of its file ends then is, if it says so. Where all places are taken, each takes the
-    /// place of another in turn.
+    /// Removes the notes that a change invalidates, and adds the end of the chain of its file, if it is given. If all slots are taken, each new note
+    /// replaces another in turn.
     pub(crate) fn follow(&mut self, falls: Falls, end: Option<KnownEnd>)
         ensures { AreNotedThen self.old.ends falls end self.new.ends }
     {

@@ -1,5 +1,5 @@
-//! The list of accepted requests: a row for each entry, and two pools for large answers, blocks of Reads and Stats. The
-//! list takes all its memory when it is made, and large answers alone touch the pages of a pool.
+//! The list of accepted requests: a row for each entry, and two pools for large answers, the blocks of Reads and the Stats. The list takes all its
+//! memory when it is made. Only large answers touch the pages of a pool.
 ghost use Rattle.std.specs.Prelude.{◌≡◌, ◌<◌, ◌↔◌, ◌++◌, ◌∷◌, [], length, vec_capacity, slice_index_or, IsTrue, IfOk, OnErr};
 ghost use Rattle.ods_request.specs.{declared.answers.Entry.Entry, Lines.HasLines};
 ghost use Rattle.ods_request.specs.declared.answers.Answer.TheVariants as Answer;
@@ -12,7 +12,7 @@ use std::alloc::{AllocError, Global};
 use std::marker::Model;
 use std::mem;
 
-/// Accepted requests with their answers, the oldest first. A contract sees the entries, and for how many there is memory.
+/// Accepted requests with their answers, the oldest first. A contract sees the entries, and the number of entries for which there is memory.
 #[derive(Drop)]
 pub struct Entries {
     rows: Vec<EntryRow>,
@@ -157,7 +157,7 @@ fn has_lines(answer: &CompactAnswer, lines: &Listing) -> bool
 }
 
 impl Entries {
-    /// An empty list with memory for so many entries, whatever they are answered, but for the lines of directories.
+    /// Returns an empty list with memory for `room` entries with any answers, except the lines of directories. It fails only when out of memory.
     pub fn with_capacity(alloc: Global, room: usize) -> Result<Entries, AllocError>
         ensures { IfOk result (λ e. e ≡ record { items = []; room = room }) }
     {
@@ -171,21 +171,21 @@ impl Entries {
         })
     }
 
-    /// Whether there is none.
+    /// Returns whether the list is empty.
     pub fn is_empty(&self) -> bool
         ensures { IsTrue result ↔ (length self.now.items ≡ 0) }
     {
         self.rows.is_empty()
     }
 
-    /// How many entries there are.
+    /// Returns the number of entries.
     pub fn len(&self) -> usize
         ensures { result ≡ length self.now.items }
     {
         self.rows.len()
     }
 
-    /// Puts an entry behind the others. It takes no memory.
+    /// Appends an entry. It takes no memory. The list must have room for one more entry.
     pub fn push_reserved(&mut self, entry: Entry)
         requires { length self.old.items < self.old.room }
         ensures { self.new ≡ record { items = self.old.items ++ entry ∷ []; room = self.old.room } }
@@ -201,7 +201,7 @@ impl Entries {
         self.push_answered(session, nth, who, request, &mut answer);
     }
 
-    /// Puts an entry behind the others, of which the answer lies in this place. It takes no memory. Lines are taken out of the place.
+    /// Appends an entry whose answer is in `answer`. It takes no memory. The lines of a directory are moved out of `answer`.
     pub(crate) fn push_answered(
         &mut self,
         session: u16,
@@ -223,7 +223,7 @@ impl Entries {
         });
     }
 
-    /// The user for whom it was asked.
+    /// Returns the user of the request of the entry at index `at`.
     pub fn who(&self, at: usize) -> Uic
         requires { at < length self.now.items }
         ensures { (e : Entry) → result ≡ (slice_index_or self.now.items at e).who }
@@ -231,7 +231,7 @@ impl Entries {
         self.rows[at].who
     }
 
-    /// The number that the caller gave the request.
+    /// Returns the number that the caller gave the request of the entry at index `at`.
     pub fn nth(&self, at: usize) -> u32
         requires { at < length self.now.items }
         ensures { (e : Entry) → result ≡ (slice_index_or self.now.items at e).nth }
@@ -239,7 +239,7 @@ impl Entries {
         self.rows[at].nth
     }
 
-    /// The request.
+    /// Returns the request of the entry at index `at`.
     pub fn request(&self, at: usize) -> &CompactRequest
         requires { at < length self.now.items }
         ensures { (e : Entry) → result.now ≡ (slice_index_or self.now.items at e).request }
@@ -247,7 +247,7 @@ impl Entries {
         &self.rows[at].request
     }
 
-    /// Whether the request was answered this.
+    /// Returns whether the answer of the entry at index `at` is `answer`.
     pub fn is_answered(&self, at: usize, answer: &Answer) -> bool
         requires { at < length self.now.items }
         ensures { (e : Entry) → IsTrue result ↔ (answer.now ≡ (slice_index_or self.now.items at e).answer) }
@@ -260,7 +260,7 @@ impl Entries {
         }
     }
 
-    /// Whether the request was answered this, which is kept in little room.
+    /// Returns whether the answer of the entry at index `at` is this compact answer.
     pub fn has_answer(&self, at: usize, answer: &CompactAnswer) -> bool
         requires { at < length self.now.items }
         ensures { (e : Entry) → IsTrue result ↔ (answer.now ≡ (slice_index_or self.now.items at e).answer) }
@@ -273,7 +273,7 @@ impl Entries {
         }
     }
 
-    /// The answer, where it has no lines.
+    /// Returns the answer of the entry at index `at`, which must have no lines of a directory. It takes no memory.
     pub fn answer(&self, at: usize) -> Answer
         requires place { at < length self.now.items }
         requires unlined { (e : Entry) → ¬ HasLines (slice_index_or self.now.items at e).answer }
@@ -294,7 +294,7 @@ impl Entries {
         }
     }
 
-    /// The answer, in memory of its own. Only the lines of a directory take any.
+    /// Returns a copy of the answer of the entry at index `at`. Only the lines of a directory take memory, so only they can fail.
     pub fn copy_answer(&self, at: usize) -> Result<Answer, AllocError>
         requires { at < length self.now.items }
         ensures ok { (e : Entry) → IfOk result (λ a. a ≡ (slice_index_or self.now.items at e).answer) }
@@ -309,7 +309,7 @@ impl Entries {
         }
     }
 
-    /// The entry, in memory of its own, but for the block of a Write, which is shared.
+    /// Returns a copy of the entry at index `at`. The block of a Write is shared. It fails only when out of memory.
     pub fn copy(&self, at: usize) -> Result<Entry, AllocError>
         requires { at < length self.now.items }
         ensures { (e : Entry) → IfOk result (λ copy. copy ≡ slice_index_or self.now.items at e) }
@@ -325,12 +325,12 @@ impl Entries {
         })
     }
 
-    /// Where the list has its memory.
+    /// Returns the allocator of the list.
     pub(crate) fn allocator(&self) -> Global {
         *self.rows.allocator()
     }
 
-    /// The session of an entry.
+    /// Returns the session of the entry at index `at`.
     pub fn session(&self, at: usize) -> u16
         requires { at < length self.now.items }
         ensures { (e : Entry) → result ≡ (slice_index_or self.now.items at e).session }

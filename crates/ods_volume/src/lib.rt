@@ -1,5 +1,5 @@
-//! A volume: a mounted image that changes by requests, and the list of those that were accepted. Without a list it gets another label too, and its files another
-//! owner or protection.
+//! A volume: a mounted image that changes by requests, and the list of the accepted requests. Without a list, a volume can also get another label,
+//! other marks of its storage bitmap and more file headers. A file of it can get another owner, protection or characteristics.
 #![tactic(auto)]
 
 mod change;

@@ -1,4 +1,4 @@
-//! The names of one directory, as a volume notes them from one request to the next.
+//! The names of one directory, which a volume notes from one request to the next.
 ghost use Rattle.std.specs.Prelude.{◌≡◌, ◌≢◌, ◌<◌, ◌⊎◌, ℕ, List, [], length, true, is_some, slice_index, slice_index_or, IfSome};
 ghost use Rattle.ods_space.specs.{Disks.on, Draft.applied, Files.AreInside, Files.HasBlocks, Layout.VolumeLayout};
 ghost use Rattle.ods_look.specs.Blocks.{AreTaggedBlocks};
@@ -41,7 +41,7 @@ pub(crate) fn directory_in(query: &Query) -> u16
 /// So often in a row a directory is used before it is noted. Noting it takes as long as some look-ups, and may never pay.
 const OFTEN: u8 = 6;
 
-/// Which directory was used last, and how often in a row, where more than often counts as often.
+/// The directory that was used last, and how often in a row, at most `OFTEN` times.
 #[derive(Clone, Copy)]
 pub(crate) struct LastUse {
     pub directory: u16,
@@ -119,7 +119,7 @@ fn may_grow(falls: Falls, file: u16) -> bool
     }
 }
 
-/// What is left of what is noted, and the tags of what the blocks become by the draft.
+/// Returns the names that are still noted after a change, with the tags of their blocks after the draft.
 pub(crate) fn retagged(
     names: Option<KnownNames>,
     falls: Falls,
@@ -177,8 +177,8 @@ fn set_tags(blocks: &[u32], tags: &mut Vec<Tags>, lbn: u32, new: Tags)
     }
 }
 
-/// What is noted once a change is made, and what was used then. A directory that got a block is noted no more, and one that is used often is noted anew, where it has
-/// more than a few blocks and there is memory for it.
+/// Returns the noted names and the last use after a change. The note of a directory that gained a block is removed. A directory that is used often is
+/// noted anew, if it has more than a few blocks and there is memory for it.
 pub(crate) fn names_after(
     alloc: Global,
     mounted: &Mounted,

@@ -10,8 +10,8 @@ use ods_space::Draft;
 use std::alloc::{AllocError, Global};
 use std::marker::Model;
 
-/// A request that is accepted, with its answer and with what it changes. The lines of a directory are there twice, once for the list
-/// and once for the caller, so that making the change takes no memory.
+/// An accepted request with its answer and its change, which is not made yet. The lines of a directory are stored twice, once for the list and once
+/// for the caller. So making the change takes no memory for them.
 #[derive(Drop)]
 pub struct Prepared {
     pub(crate) entry: Entry,
@@ -48,7 +48,7 @@ fn lines_of(answer: &Answer) -> Result<Option<Listing>, AllocError>
 }
 
 impl Prepared {
-    /// The change of a request that is answered so, under a session's number. Only the lines of the answer take memory.
+    /// Returns the plan of a request with this answer and this change, under a session's number. Only the lines of the answer take memory.
     pub(crate) fn of(
         session: u16,
         nth: u32,
@@ -77,28 +77,28 @@ impl Prepared {
         }
     }
 
-    /// The blocks that it changes.
+    /// Returns the blocks that the request changes.
     pub fn changes(&self) -> &Draft
         ensures { result.now ≡ self.now.changes }
     {
         &self.change.draft
     }
 
-    /// The blocks that INDEXF.SYS gets behind its own.
+    /// Returns the LBNs of the blocks that INDEXF.SYS gains after its own blocks.
     pub fn places(&self) -> &[u32]
         ensures { result.now ≡ self.now.places }
     {
         self.change.places.as_slice()
     }
 
-    /// The answer, in little room and in memory of its own.
+    /// Returns a compact copy of the answer. It fails only when out of memory.
     pub fn copy_answer(&self) -> Result<CompactAnswer, AllocError>
         ensures { IfOk result (λ answer. answer ≡ self.now.entry.answer) }
     {
         CompactAnswer::copy_of(*self.change.places.allocator(), &self.entry.answer)
     }
 
-    /// These blocks once more, in memory of their own.
+    /// Returns a copy of [`Prepared::places`]. It fails only when out of memory.
     pub fn copy_places(&self) -> Result<Vec<u32>, AllocError>
         ensures { IfOk result (λ places. places.items ≡ self.now.places) }
     {

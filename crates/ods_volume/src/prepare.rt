@@ -1,5 +1,5 @@
-//! What a request is answered, and what it makes of the volume. This file alone calls what answers a request or drafts
-//! its change in the layers below.
+//! The answer of a request, and its change of the volume. Only this file calls the functions of the lower layers that answer a request or draft its
+//! change.
 ghost use Rattle.std.specs.Prelude.{◌≡◌, false, true, MatchResult, IfOk, IfSome, OnErr};
 ghost use Rattle.ods_alloc.specs.Counts.{AreCountsAfter, counts_of};
 ghost use Rattle.ods_space.specs.{Draft.applied, Layout.VolumeLayout};
@@ -20,7 +20,7 @@ use ods_space::{Disk, Draft};
 use ods_state::{KnownEnd, KnownNames};
 use std::alloc::{AllocError, Global};
 
-/// Writes the answer of a query into this place. It changes no block.
+/// Writes the answer of a query into `answer`. It changes no block.
 pub(crate) fn look_only<'a>(
     alloc: Global,
     disk: &Disk<'a>,
@@ -61,8 +61,8 @@ fn list_only(
     }
 }
 
-/// What a change is answered; of an Extend, where the chain of its file ends then, with the count of
-/// its blocks; of a Truncate the same, if that is known. No such answer has a block or lines, so this is small and cheap to hand on.
+/// The answer of a change. For an Extend it is the end of the file's chain afterwards, with the count of its blocks. For a Truncate it has the same,
+/// if that is known. No such answer has a block or lines, so the value is small and cheap to move.
 #[derive(Clone, Copy)]
 pub(crate) enum Made {
     Created(FileId),
@@ -187,8 +187,8 @@ fn change<'a>(
     }
 }
 
-/// Writes what a request is answered into this place, and gives what it makes of the volume. An Extend says where the chain of its
-/// file ends then, and a Truncate may.
+/// Writes the answer of a request into `answer`, and returns its change of the volume. An Extend also returns the end of the chain of its file, and a
+/// Truncate may.
 pub(crate) fn carry_out<'a>(
     alloc: Global,
     disk: &Disk<'a>,
@@ -230,7 +230,7 @@ pub(crate) fn carry_out<'a>(
     }
 }
 
-/// The counts of the bitmaps once the draft of a request is applied; none where they stay. No memory is taken for a query.
+/// Returns the counts of the bitmaps after the draft of a request, or `None` if they are unchanged. A query takes no memory.
 pub(crate) fn counts_after(
     counts: &FreeCounts,
     disk: &Disk<'_>,

@@ -26,10 +26,13 @@ use ods_state::{KnownEnd, KnownNames};
 use std::alloc::{AllocError, Global};
 use std::marker::Model;
 
-/// A sound image with its layout, which changes by requests. What is free is counted for each block of the bitmaps, so that a request
-/// reads none of which nothing is left. Where the chains of the files end that were extended last is noted, so that their next Extend
-/// does not walk along them. Of the directory that was used last the names may be noted, so that a look-up reads few of its blocks. The
-/// image is always sound, and the counts are those made anew of it.
+/// A sound image with its layout, which changes by requests. The image is always sound.
+///
+/// The free blocks and numbers are counted for each block of the bitmaps, so that a request skips bitmap blocks without a free bit. The counts always
+/// equal new counts of the image.
+///
+/// The ends of the chains of the files that were extended last are noted, so that their next Extend does not walk the chain. The names of the
+/// directory that was used last may be noted, so that a look-up reads few of its blocks.
 #[derive(Drop)]
 pub struct Sound {
     alloc: Global,
@@ -51,9 +54,9 @@ impl Model for Sound {
     ghost invariant = { λ s. IsNoted s.mounted s.counts s.ends.ends s.names };
 }
 
-/// What an accepted request changes: the blocks, and those that INDEXF.SYS gets. It has the counts of the bitmaps afterwards, where they
-/// are made anew, where the chain of its file ends then, if it says so, and what it makes untrue of what is noted of others. All the
-/// memory that the change takes is taken.
+/// The change of an accepted request: the changed blocks, and the LBNs that INDEXF.SYS gains. It has the new counts of the bitmaps if they change. It
+/// has the end of the chain of the changed file, if that is known, and states which notes of other files it invalidates. All the memory of the change
+/// is taken already.
 #[derive(Drop)]
 pub struct Change {
     pub(crate) draft: Draft,
@@ -83,7 +86,7 @@ fn put_counts(kept: &mut FreeCounts, new: Option<FreeCounts>)
 }
 
 impl Sound {
-    /// The mounted image, with what is free counted. After an error it comes back.
+    /// Counts the free blocks and numbers of the mounted image. When out of memory, it returns the image with the error.
     pub fn new(alloc: Global, mounted: Mounted) -> Result<Sound, (Mounted, NoMemory)>
         ensures ok { IfOk result (λ s. s ≡ mounted) }
         ensures err { IfErr result (λ e. e.0 ≡ mounted) }
@@ -105,21 +108,21 @@ impl Sound {
         })
     }
 
-    /// The volume as it is now. It takes no memory.
+    /// Returns the volume as it is now, and drops the notes. It takes no memory.
     pub fn into_mounted(self) -> Mounted
         ensures { result ≡ self }
     {
         self.mounted
     }
 
-    /// The volume as it is now, which is mounted and sound.
+    /// Returns the volume as it is now, which is mounted and sound.
     pub fn mounted(&self) -> &Mounted
         ensures { result.now ≡ self.now }
     {
         &self.mounted
     }
 
-    /// The image with its layout, as they are now.
+    /// Returns the image with its layout, as they are now.
     pub fn disk(&self) -> Disk<'_>
         ensures image { result.image.now ≡ self.now.image }
         ensures layout { result.layout.now ≡ self.now.layout }
@@ -128,29 +131,29 @@ impl Sound {
         self.mounted.disk()
     }
 
-    /// How many blocks are free.
+    /// Returns the number of free blocks.
     pub fn free_count(&self) -> u32
         ensures { result ≡ length (free_blocks self.now.image self.now.layout) }
     {
         self.counts.total()
     }
 
-    /// How many free blocks each block of the storage bitmap covers, in order; the storage control block is not counted. The counts
-    /// are kept, and equal those that are made anew of the image.
+    /// Returns the number of free blocks that each block of the storage bitmap covers, in order. The storage control block is not counted. The counts
+    /// are kept, and equal new counts of the image.
     pub fn counts(&self) -> &[u32]
         ensures { result.now ≡ free_counts self.now.image self.now.layout }
     {
         self.counts.as_slice()
     }
 
-    /// How many file numbers are free.
+    /// Returns the number of free file numbers.
     pub fn number_count(&self) -> u32
         ensures { result ≡ length (free_numbers self.now.image self.now.layout) }
     {
         ods_alloc::number_count(&self.disk())
     }
 
-    /// Writes the answer of a query into this place, and gives the change, which changes nothing. It takes no memory.
+    /// Writes the answer of a query into `answer`, and returns a change that changes nothing. It takes no memory.
     pub(crate) fn look(
         &self,
         who: Uic,
@@ -179,8 +182,8 @@ impl Sound {
         })
     }
 
-    /// Writes what a request would be answered into this place, and gives what it would change, with all the memory that this takes. The
-    /// volume stays as it is.
+    /// Prepares a request: writes its answer into `answer`, and returns its change with all the memory that this takes. The volume is unchanged. An
+    /// error is the first fault of the request, a lack of the volume, or NoMemory.
     pub fn prepare(
         &self,
         who: Uic,
@@ -221,7 +224,7 @@ impl Sound {
         })
     }
 
-    /// Does what [`Sound::prepare`] does. Nothing with room for a block is made of a request that only looks.
+    /// Prepares a request as [`Sound::prepare`] does. A query is not copied into a value with room for a block.
     pub(crate) fn prepare_shared(
         &self,
         who: Uic,
@@ -238,7 +241,8 @@ impl Sound {
         }
     }
 
-    /// Makes a change that was prepared for this volume as it is. It never fails. Memory is taken to note a directory alone, and where there is none, nothing is noted.
+    /// Applies a change that was prepared for this volume as it is now. It never fails. It takes memory only to note a directory. When out of memory,
+    /// nothing is noted.
     pub fn apply(&mut self, change: Change)
         requires { IsLawfulChange self.old change }
         ensures { self.new ≡ changed self.old change }
@@ -264,7 +268,7 @@ impl Sound {
         self.last = last;
     }
 
-    /// Prepares a request and makes its change. Refused, it changes nothing.
+    /// Prepares a request and makes its change. After a refusal the volume is unchanged.
     pub fn request(&mut self, who: Uic, request: &Request) -> Result<Answer, Refusal>
         // A version that is given is 1 to 32,767.
         requires { CanBeAsked request.now }
@@ -309,8 +313,8 @@ impl Sound {
         Ok(growth)
     }
 
-    /// INDEXF.SYS gets headers for so many files more, all at once, so that its last header gets as few pointers for them as it can. Who makes
-    /// many files calls this first: each Create by itself would take a pointer. Refused, it changes nothing.
+    /// Extends INDEXF.SYS by headers for `count` more files, all at once, so that its last header takes as few pointers for them as possible. Call
+    /// this before the creation of many files: otherwise each Create takes a pointer. After an error the volume is unchanged.
     pub fn grow_index(&mut self, count: u32) -> Result<(), Refusal>
         // It has the lowest free blocks behind its own, and the catalogue is as it was.
         ensures grown { OnOk result (HasMoreHeaders self.old count self.new) }
@@ -359,8 +363,9 @@ impl Sound {
         Ok(given)
     }
 
-    /// Gives a file this owner, H.FOWN of its first header, and this protection word, H.FPRO, each where it is given, for a user. A system user, whose group is at most 10
-    /// octal, and the file's owner may. Refused in this order: NoSuchFile; Reserved for the files 1 to 5; Denied; and NoMemory. Refused, it changes nothing.
+    /// Sets the owner (H.FOWN) and the protection word (H.FPRO) in the first header of a file, each if given. The user must be a system user, whose
+    /// group is at most 10 octal, or the owner of the file. The errors, in this order: NoSuchFile; Reserved for the files 1 to 5; Denied; NoMemory.
+    /// After an error the volume is unchanged.
     pub fn set_access(
         &mut self,
         who: Uic,
@@ -377,7 +382,7 @@ impl Sound {
         Ok(())
     }
 
-    /// Gives a file another owner, for a user. Who may, and what is refused, is as of `set_access`.
+    /// Sets the owner of a file, for a user. The rights and errors are those of [`Sound::set_access`].
     pub fn set_owner(&mut self, who: Uic, file: FileId, owner: Uic) -> Result<(), Refusal>
         ensures given { OnOk result (Gives self.old who file (Some owner) None self.new) }
         ensures refused { IfErr result (IsWhyNotGiven self.old who file) }
@@ -386,8 +391,8 @@ impl Sound {
         self.set_access(who, file, Some(owner), None)
     }
 
-    /// Gives a file another protection word, for a user: four bits for each class of users, where a set bit denies. Who may, and what is refused, is as of
-    /// `set_access`.
+    /// Sets the protection word of a file, for a user: four bits for each class of users, where a set bit denies. The rights and errors are those of
+    /// [`Sound::set_access`].
     pub fn set_protection(&mut self, who: Uic, file: FileId, protection: u16) -> Result<(), Refusal>
         ensures given { OnOk result (Gives self.old who file None (Some protection) self.new) }
         ensures refused { IfErr result (IsWhyNotGiven self.old who file) }
@@ -396,7 +401,7 @@ impl Sound {
         self.set_access(who, file, None, Some(protection))
     }
 
-    /// Gives a file other characteristics of the user's, H.UCHA of its first header, for a user. Who may, and what is refused, is as of `set_access`.
+    /// Sets the user characteristics (H.UCHA) in the first header of a file, for a user. The rights and errors are those of [`Sound::set_access`].
     pub fn set_characteristics(&mut self, who: Uic, file: FileId, flags: u8) -> Result<(), Refusal>
         ensures given { OnOk result (GivesAll self.old who file None None (Some flags) self.new) }
         ensures refused { IfErr result (IsWhyNotGiven self.old who file) }
@@ -430,8 +435,9 @@ impl Sound {
         Ok(marked)
     }
 
-    /// Has the storage bitmap say of blocks, given by their LBNs, that they are free, or that they are taken, as far as it covers them. Those that it frees no
-    /// file may hold, and no home block may be looked for there. It fails for want of memory alone, and then changes nothing.
+    /// Marks blocks, given by their LBNs, as free or as in use in the storage bitmap. Blocks that the bitmap does not cover are skipped. A block to
+    /// free must belong to no file, and must not be a place before the home block where a mount searches for one. It fails only when out of memory,
+    /// and then the volume is unchanged.
     pub fn mark_blocks(&mut self, blocks: &[u32], free: bool) -> Result<(), AllocError>
         requires { free ≡ true → All (IsLoose self.old.image self.old.layout) blocks.now }
         ensures marked { OnOk result (MarksAs self.old blocks.now free self.new) }
@@ -464,7 +470,8 @@ impl Sound {
         Ok(labelled)
     }
 
-    /// Gives the volume another label: H.VNAM of the home block, and its copy at byte 472. It fails for want of memory alone, and then changes nothing.
+    /// Sets the label of the volume: H.VNAM of the home block, and its copy at byte 472. It fails only when out of memory, and then the volume is
+    /// unchanged.
     pub fn set_label(&mut self, label: &Label) -> Result<(), AllocError>
         ensures given { OnOk result (Relabels self.old label.now self.new) }
         ensures unchanged { OnErr result (self.new ≡ self.old) }

@@ -1,4 +1,4 @@
-//! The volume: how it begins, and what is shown of it.
+//! The volume: how it begins, and what it returns.
 ghost use Rattle.std.specs.Prelude.{◌≡◌, ◌≤◌, [], length, IfOk, IfErr};
 ghost use Rattle.ods_alloc.specs.Counts.{free_counts};
 ghost use Rattle.ods_space.specs.Free.{free_blocks, free_numbers};
@@ -14,9 +14,8 @@ use ods_space::{Disk, Layout};
 use std::alloc::Global;
 use std::marker::Model;
 
-/// A sound volume that changes by requests, the image as it was mounted, and the list of the requests that were accepted. The image
-/// shows what the entries, one after another, make of the catalogue of the mounted image. The list stays within its limit. No new
-/// file gets an ID of the catalogue's past.
+/// A sound volume that changes by requests, the image as it was mounted, and the list of accepted requests. The image shows the catalogue of the
+/// mounted image after the entries, applied in order. The list stays within its limit. No new file receives an ID of the catalogue's past.
 #[derive(Drop)]
 pub struct Volume {
     pub(crate) mounted: FixedImage,
@@ -39,8 +38,8 @@ impl Model for Volume {
 
 impl Volume {
     ghost use Rattle.ods_space.specs.Disks.{on};
-    /// The mounted image and an empty list, with room for as many entries as the limit, and what is free counted. All the memory that
-    /// the list takes is taken here. After an error the mounted image comes back.
+    /// Returns the volume of a mounted image, with an empty list and the free blocks and numbers counted. It takes all the memory of the list, for
+    /// `limit` entries. When out of memory, it returns the mounted image with the error.
     pub fn new(alloc: Global, mounted: Mounted, limit: u32) -> Result<Volume, (Mounted, NoMemory)>
         requires low { 1 ≤ limit }
         requires high { limit ≤ 65536 }
@@ -67,35 +66,35 @@ impl Volume {
         })
     }
 
-    /// The volume as it is now; its list is let go. It takes no memory.
+    /// Returns the volume as it is now, and drops its list. It takes no memory.
     pub fn into_mounted(self) -> Mounted
         ensures { (result.image ≡ self.image) × (result.layout ≡ self.layout) }
     {
         self.sound.into_mounted()
     }
 
-    /// Each volume has a catalogue now.
+    /// Each volume has a present catalogue.
     pub fn present(&self)
         ensures { (C : Catalogue) × IsPresent self.now C }
     {
         let _ = &self.limit;
     }
 
-    /// What is true of each volume.
+    /// Each volume is lawful.
     pub fn is_lawful(&self)
         ensures { IsLawful self.now }
     {
         let _ = &self.limit;
     }
 
-    /// The accepted requests, the oldest first.
+    /// Returns the accepted requests, the oldest first.
     pub fn entries(&self) -> &Entries
         ensures { result.now.items ≡ self.now.entries }
     {
         &self.entries
     }
 
-    /// The image now. It is a version of the mounted one, and no fault is true of it.
+    /// Returns the image as it is now. It is a version of the mounted image, and no fault holds for it.
     pub fn image(&self) -> &Image
         ensures value { result.now ≡ self.now.image }
         ensures no_fault { IsSound self.now.image }
@@ -104,14 +103,14 @@ impl Volume {
         self.sound.mounted().image()
     }
 
-    /// Where the image's structures lie.
+    /// Returns the layout of the image.
     pub fn layout(&self) -> &Layout
         ensures { result.now ≡ self.now.layout }
     {
         self.sound.mounted().layout()
     }
 
-    /// The image with its layout, as they are now.
+    /// Returns the image with its layout, as they are now.
     pub fn disk(&self) -> Disk<'_>
         ensures image { result.image.now ≡ self.now.image }
         ensures layout { result.layout.now ≡ self.now.layout }
@@ -120,14 +119,14 @@ impl Volume {
         self.sound.disk()
     }
 
-    /// The image as it was mounted.
+    /// Returns the image as it was mounted.
     pub fn mounted(&self) -> &FixedImage
         ensures { result.now ≡ self.now.mounted }
     {
         &self.mounted
     }
 
-    /// How many entries the list may have, from 1 to 65,536.
+    /// Returns the highest number of entries of the list, from 1 to 65,536.
     pub fn limit(&self) -> u32
         ensures value { result ≡ self.now.limit }
         ensures low { 1 ≤ result }
@@ -136,22 +135,22 @@ impl Volume {
         self.limit
     }
 
-    /// How many blocks are free.
+    /// Returns the number of free blocks.
     pub fn free_count(&self) -> u32
         ensures { result ≡ length (free_blocks self.now.image self.now.layout) }
     {
         self.sound.free_count()
     }
 
-    /// How many free blocks each block of the storage bitmap covers, in order; the storage control block is not counted. The counts
-    /// are kept, and equal those that are made anew of the image.
+    /// Returns the number of free blocks that each block of the storage bitmap covers, in order. The storage control block is not counted. The counts
+    /// are kept, and equal new counts of the image.
     pub fn counts(&self) -> &[u32]
         ensures { result.now ≡ free_counts self.now.image self.now.layout }
     {
         self.sound.counts()
     }
 
-    /// How many file numbers are free.
+    /// Returns the number of free file numbers.
     pub fn number_count(&self) -> u32
         ensures { result ≡ length (free_numbers self.now.image self.now.layout) }
     {

@@ -1,4 +1,4 @@
--- What a walk from the master directory leaves out: nothing to which names lead.
+-- A walk from the master directory is complete: it leaves out nothing that names reach.
 use Rattle.std.specs.Prelude.{◌≡◌, ℕ, ◌<◌, List, [], ◌∷◌, length, map, nat_eq}
 use Rattle.std.specs.List.{Contains, IsDistinct}
 use Rattle.ods_base.specs.Name.{RadName}
@@ -15,24 +15,26 @@ pub record HasEntry (I : List (List ℕ)) (L : VolumeLayout) (n : ℕ) (e : List
   pub listing : IsListing I L n lines
   pub among : Contains lines e
 
--- from directory n these names lead to directory m, each by an entry that names a directory
+-- these names reach directory m from directory n, each by an entry that names a directory
 abbrev pub LeadsTo : List (List ℕ) → VolumeLayout → ℕ → List RadName → ℕ → Type 0
 LeadsTo I L n [] m = n ≡ m
 LeadsTo I L n (name ∷ names) m = (e : Listed) × HasEntry I L n e × (e.name ≡ name) × NamesDirectory I L e × LeadsTo I L e.file.number names m
 
--- From directory n these names lead to directory m, each by an entry that names a directory which is none of these shut ones.
+-- These names reach directory m from directory n, each by an entry that names a directory outside the list of shut ones.
 abbrev pub LeadsPast : List (List ℕ) → VolumeLayout → List ℕ → ℕ → List RadName → ℕ → Type 0
 LeadsPast I L shut n [] m = n ≡ m
 LeadsPast I L shut n (name ∷ names) m =
     (e : Listed) × HasEntry I L n e × (e.name ≡ name) × NamesDirectory I L e × (¬ Contains shut e.file.number) × LeadsPast I L shut e.file.number names m
 
--- The directories that a walk from directory n enters: each is the one to which its path leads past the shut ones; all are there to which names lead so; and none is there twice.
+-- The directories that a walk from directory n enters: each is the one that its path reaches past the shut ones; all that names reach like this are
+-- in the list; and none is in it twice.
 pub record AreReached (I : List (List ℕ)) (L : VolumeLayout) (n : ℕ) (shut : List ℕ) (directories : List Entered) : Type 0 where
   pub only : (place : ℕ) → place < length directories → LeadsPast I L shut n (path_to directories place) (number_at directories place)
   pub all : (names : List RadName) (m : ℕ) → LeadsPast I L shut n names m → Contains (map (λ d. d.number) directories) m
   pub once : IsDistinct nat_eq (map (λ d. d.number) directories)
 
--- Each line is an entry of a directory to which its path leads from the master directory, and each entry of a directory to which names lead from there is on some line of that directory.
+-- Each line is an entry of a directory that its path reaches from the master directory. Each entry of a directory that names reach from there is on
+-- some line of that directory.
 pub record IsComplete (I : List (List ℕ)) (L : VolumeLayout) (lines : List Line) : Type 0 where
   pub only : (l : Line) → Contains lines l → LeadsTo I L 4 l.path l.directory × HasEntry I L l.directory l.entry
   pub all : (names : List RadName) (n : ℕ) (e : Listed) → LeadsTo I L 4 names n → HasEntry I L n e → (l : Line) × Contains lines l × (l.directory ≡ n) × (l.entry ≡ e)

@@ -1,4 +1,4 @@
-//! The directories to which names lead from the master directory: each entered once, the nearer ones first. No line is kept.
+//! The directories that names reach from the master directory: each is entered once, the nearer ones first. No line is kept.
 ghost use Rattle.std.specs.Prelude.{◌≡◌, ◌+◌, ◌<◌, [], ◌∷◌, length, IfOk, OnOk};
 ghost use Rattle.ods_mount.specs.Faults.{IsDirectoryFile};
 ghost use Rattle.ods_walk.specs.{Complete.AreReached, Entering.IsBounded, Entering.IsEntering, Entering.IsSeen, Listing.IsListing, Paths.number_at};
@@ -14,8 +14,8 @@ use std::alloc::{AllocError, Global};
 /// The number of the master directory.
 const MASTER: u16 = 4;
 
-/// Enters all directories to which names lead from the master directory. It keeps no lines, and reads one directory at a time: many directories over the
-/// same blocks take no more room than others.
+/// Enters all directories that names reach from the master directory. It keeps no lines, and reads one directory at a time, so that many directories
+/// over the same blocks take no more room than others. It fails only when out of memory.
 pub fn enter_all(alloc: Global, disk: &Disk<'_>) -> Result<Walk, AllocError>
     requires { on IsDirectoryFile disk.now 4 }
     ensures reached { IfOk result (λ walk. on AreReached disk.now 4 (4 ∷ []) walk.directories) }

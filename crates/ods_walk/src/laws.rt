@@ -1,7 +1,7 @@
-//! Laws over the definitions alone: each stands on a function with no body.
+//! Laws over the definitions only: each is the contract of a function without a body.
 ghost use Rattle.ods_walk.specs.{Complete.WalksAreComplete, Listing.ListsTheNames};
 
-/// A walk from the master directory has just the entries of the directories to which names lead from there.
+/// A walk from the master directory has exactly the entries of the directories that names reach from there.
 pub fn walks_are_complete()
     ensures { WalksAreComplete }
 {}

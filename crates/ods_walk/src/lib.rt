@@ -1,4 +1,5 @@
-//! The directories of a volume, sound or refused, as people are shown them: the lines of one in the order of a listing, and the walk over all below one.
+//! The directories of a volume, sound or refused, as listings show them: the lines of one directory in listing order, and the walk over all
+//! directories below one.
 #![tactic(auto)]
 
 mod entering;

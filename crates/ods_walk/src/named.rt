@@ -1,4 +1,4 @@
-//! The entries of a directory that have one name: found by the words of the name, with no list of the others.
+//! The entries of a directory with one name: found by the words of the name, without a list of the other entries.
 ghost use Rattle.std.specs.Prelude.{◌≡◌, ◌++◌, ◌∷◌, ◌*◌, ◌<◌, ◌≤◌, ℕ, [], false, true, length, IfOk, MatchBool, OnOk};
 ghost use Rattle.std.specs.List.{filter};
 ghost use Rattle.ods_base.specs.{Image.block_at, Names.is_of};
@@ -16,7 +16,8 @@ use ods_space::Disk;
 use std::alloc::{AllocError, Global};
 use std::slice;
 
-/// Of the entries that a directory shows those of this name, in the order of its blocks. Most entries are passed over by their words.
+/// Returns the shown entries of a directory with this name, in the order of its blocks. Most other entries are skipped by their words. It fails only
+/// when out of memory.
 pub fn entries_of(
     alloc: Global,
     disk: &Disk<'_>,

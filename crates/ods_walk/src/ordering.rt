@@ -1,4 +1,4 @@
-//! The lines of a directory as people are shown them: by name, then by type, each as text, and of one name the highest version first.
+//! The lines of a directory in listing order: by name, then by type, each as text. For one name the highest version is first.
 ghost use Rattle.std.specs.Prelude.{◌≡◌, ◌<◌, ◌≤◌, length, nat_le, IfOk, IsPermutation, IsSortedByKey};
 ghost use Rattle.std.specs.List.{All};
 ghost use Rattle.ods_text.specs.Cuts.{IsFirst};
@@ -18,8 +18,8 @@ use ods_space::{Disk, primary_header, reach_blocks};
 use std::alloc::{AllocError, Global};
 use std::cmp::Ordering;
 
-/// The lines that a directory shows, in the order of a listing. The image may be one that is refused: then they are those of its good entries, in its
-/// blocks up to the first that is missing.
+/// Returns the lines of a directory in listing order. The image may be a refused one: then the lines are its good entries, in its blocks up to the
+/// first missing block. It fails only when out of memory.
 pub fn listing(alloc: Global, disk: &Disk<'_>, number: u16) -> Result<Vec<Listed>, AllocError>
     requires { on IsDirectoryFile disk.now number }
     ensures { IfOk result (λ lines. on IsListing disk.now number lines.items) }
@@ -28,7 +28,8 @@ pub fn listing(alloc: Global, disk: &Disk<'_>, number: u16) -> Result<Vec<Listed
     in_order(alloc, &entries)
 }
 
-/// The lines of which a listing is made, in the order of the directory's blocks. Who wants few of them in order leaves the others out first.
+/// Returns the lines of a listing in the order of the directory's blocks. To sort only a few of them, filter them first. It fails only when out of
+/// memory.
 pub fn shown_entries(alloc: Global, disk: &Disk<'_>, number: u16) -> Result<Vec<Listed>, AllocError>
     requires { on IsDirectoryFile disk.now number }
     ensures { IfOk result (λ entries. on AreEntries disk.now number entries.items) }
@@ -37,7 +38,7 @@ pub fn shown_entries(alloc: Global, disk: &Disk<'_>, number: u16) -> Result<Vec<
     Ok(shown)
 }
 
-/// How many entries of a directory a listing passes over, since they are bad. On a sound volume there are none.
+/// Returns the number of entries of a directory that a listing skips, since they are bad. A sound volume has none. It fails only when out of memory.
 pub fn count_bad(alloc: Global, disk: &Disk<'_>, number: u16) -> Result<usize, AllocError>
     requires { on IsDirectoryFile disk.now number }
     ensures { IfOk result (on ArePassedOver disk.now number) }
@@ -62,7 +63,7 @@ fn read_entries(
     Ok((lines, bad))
 }
 
-/// The blocks of a directory that are there, and its mark.
+/// Returns the existing blocks of a directory, and its end mark.
 pub(crate) fn directory_blocks(
     alloc: Global,
     disk: &Disk<'_>,
@@ -101,7 +102,7 @@ fn place_past(len: u32, lbns: &[u32]) -> usize
         .unwrap_or(lbns.len())
 }
 
-/// These lines in the order of a listing.
+/// Returns these lines in listing order. It fails only when out of memory.
 pub fn in_order(alloc: Global, entries: &[Listed]) -> Result<Vec<Listed>, AllocError>
     ensures permutation { IfOk result (λ lines. IsPermutation entries.now lines.items) }
     ensures order { IfOk result (λ lines. IsSortedByKey shown listing_cmp lines.items) }

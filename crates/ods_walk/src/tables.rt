@@ -1,4 +1,4 @@
-//! What a walk found: its lines, and the table of the directories that were entered, by which each line has its path.
+//! The result of a walk: its lines, and the table of the entered directories, by which each line has its path.
 ghost use Rattle.std.specs.Prelude.{◌≡◌, ◌++◌, IfOk, OnOk, length, reverse, slice_get};
 ghost use Rattle.std.specs.Option.{option_copied};
 ghost use Rattle.ods_walk.specs.Paths.{path_to};
@@ -7,22 +7,22 @@ use ods_base::{Listed, Name};
 use std::alloc::{AllocError, Global};
 use std::marker::Model;
 
-/// A line of a walk: an entry, and in which directory it stands, by its place among those that were entered.
+/// A line of a walk: an entry, and the index of its directory among the entered directories.
 #[derive(Clone, Copy, Debug, PartialEq, Eq)]
 pub struct Line {
     pub directory: usize,
     pub entry: Listed,
 }
 
-/// A directory that was entered: its number, the place of the directory whose entry led to it, and the name there. The directory where the
-/// walk starts stands at place 0, and nothing leads to it.
+/// An entered directory: its number, the index of the directory with its entry, and its name there. The directory where the walk starts has index 0,
+/// and no such entry.
 #[derive(Clone, Copy, Debug, PartialEq, Eq)]
 pub struct Entered {
     pub number: u16,
     pub from: Option<(usize, Name)>,
 }
 
-/// What a walk found: the directories in the order in which they were entered, and the lines.
+/// The result of a walk: the directories in the order in which they were entered, and the lines.
 #[derive(Drop, Debug)]
 pub struct Walk {
     pub(crate) directories: Vec<Entered>,
@@ -38,28 +38,28 @@ impl Model for Walk {
 }
 
 impl Walk {
-    /// All lines, in order.
+    /// Returns all lines, in order.
     pub fn lines(&self) -> &[Line]
         ensures { result.now ≡ self.now.lines }
     {
         self.lines.as_slice()
     }
 
-    /// How many directories were entered.
+    /// Returns the number of entered directories.
     pub fn directory_count(&self) -> usize
         ensures { result ≡ length self.now.directories }
     {
         self.directories.len()
     }
 
-    /// The directory at this place.
+    /// Returns the directory at this index, or `None` past the last one.
     pub fn directory(&self, place: usize) -> Option<&Entered>
         ensures { option_copied result ≡ slice_get self.now.directories place }
     {
         self.directories.get(place)
     }
 
-    /// The names of the directories that lead to this place from the one where the walk starts.
+    /// Returns the names of the path from the start of the walk to the directory at this index. It fails only when out of memory.
     pub fn path(&self, alloc: Global, place: usize) -> Result<Vec<Name>, AllocError>
         ensures { IfOk result (λ names. names.items ≡ path_to self.now.directories place) }
     {

@@ -1,4 +1,4 @@
-//! The walk over the directories below one: depth first, in the order of listing, each directory entered once.
+//! The walk over the directories below one: depth first, in listing order, each directory entered once.
 ghost use Rattle.std.specs.Prelude.{◌≡◌, ◌++◌, ◌∷◌, ℕ, List, [], length, map, IfOk, IfSome, IfNone, OnOk, MatchBool};
 ghost use Rattle.ods_base.specs.declared.listed.Listed.{Listed as Entry};
 ghost use Rattle.ods_mount.specs.Faults.{IsDirectoryFile};
@@ -12,7 +12,7 @@ use ods_header::{file_sequence, is_directory};
 use ods_space::{Disk, primary_header};
 use std::alloc::{AllocError, Global};
 
-/// Goes through all lines below directory `start`. That one and the master directory count as entered.
+/// Walks all lines below directory `start`. The start and the master directory count as entered. It fails only when out of memory.
 pub fn walk_from(alloc: Global, disk: &Disk<'_>, start: u16) -> Result<Walk, AllocError>
     requires { on IsDirectoryFile disk.now start }
     ensures walk { IfOk result (λ walk. on IsWalk disk.now start walk) }
@@ -21,8 +21,8 @@ pub fn walk_from(alloc: Global, disk: &Disk<'_>, start: u16) -> Result<Walk, All
     walk_past(alloc, disk, start, &[])
 }
 
-/// Goes through all lines below directory `start`, and enters none of the closed directories. That one and the master directory count as
-/// entered.
+/// Walks all lines below directory `start`, and enters none of the closed directories. The start and the master directory count as entered. It fails
+/// only when out of memory.
 pub fn walk_past(
     alloc: Global,
     disk: &Disk<'_>,
@@ -56,7 +56,7 @@ pub fn walk_past(
     Ok(Walk { directories, lines })
 }
 
-/// The flags of all numbers, of which these are set.
+/// Returns the flags of all 65,536 numbers, with the flags of `numbers` set.
 pub(crate) fn flags_of(alloc: Global, numbers: &[u16]) -> Result<Vec<bool>, AllocError>
     ensures { IfOk result (λ flags. AreEntered flags.items numbers.now) }
 {
@@ -89,7 +89,7 @@ fn next_directory(
     Ok(None)
 }
 
-/// Whether an entry is walked into: it names a directory that is not entered yet.
+/// Returns whether the walk enters the directory of an entry: the entry names a directory that is not entered yet.
 pub(crate) fn is_walked_into(disk: &Disk<'_>, is_entered: &[bool], entry: &Listed) -> bool
     requires { length is_entered.now ≡ 65536 }
     ensures { (entered : List ℕ) → AreEntered is_entered.now entered
@@ -98,7 +98,7 @@ pub(crate) fn is_walked_into(disk: &Disk<'_>, is_entered: &[bool], entry: &Liste
     !is_entered[entry.file.number as usize] && names_directory(disk, entry)
 }
 
-/// Whether an entry names a directory: its type is DIR, and its file is there and a directory.
+/// Returns whether an entry names a directory: its type is DIR, and its file exists and is a directory.
 pub fn names_directory(disk: &Disk<'_>, entry: &Listed) -> bool
     ensures { MatchBool result (on NamesDirectory disk.now entry.now) (¬ on NamesDirectory disk.now entry.now) }
 {

@@ -1,4 +1,4 @@
-//! Why words ask for nothing, and what is said of them.
+//! Why a command line requests no action, and the text that reports it.
 ghost use Rattle.std.specs.Prelude.{IfOk};
 ghost use Rattle.clap.specs.Values.{kind_of};
 ghost use Rattle.ods_words.specs.Telling.{IsToldOf, IsWrong};
@@ -7,12 +7,12 @@ use clap::Error;
 use clap::error::ErrorKind;
 use std::alloc::{AllocError, Global};
 
-/// Why words ask for nothing.
+/// The reason why a command line requests no action.
 #[derive(Debug, Drop)]
 pub enum WordsFault {
-    /// The help was asked for; this is its text, with its last line feed.
+    /// The help or the version was requested. The text is what to print, with its last line feed.
     Help(String),
-    /// The words are wrong; these are a line or two that say how, with no line feed at the end.
+    /// The command line is not valid. The text has one or two lines that report the error, without a line feed at the end.
     Wrong(String),
     /// The allocator refused memory.
     NoMemory,
@@ -29,7 +29,7 @@ impl From<AllocError> for WordsFault {
     }
 }
 
-/// What clap says of words that are none of the program's: the help, or a line.
+/// Converts an error of clap to a fault: the text of the help or version, a line that reports the error, or out of memory.
 pub fn tell_error(alloc: Global, error: &Error) -> Result<WordsFault, AllocError>
     ensures { IfOk result (IsToldOf (kind_of error.now)) }
 {
@@ -46,7 +46,12 @@ pub fn tell_error(alloc: Global, error: &Error) -> Result<WordsFault, AllocError
 fn line_of(alloc: Global, error: &Error, kind: ErrorKind) -> Result<String, AllocError> {
     let text = format!(in alloc; "{error}")?;
     let mut lines = text.as_str().lines();
-    let mut line = String::from_str(alloc, lines.next().unwrap_or("error: wrong words"))?;
+    let mut line = String::from_str(
+        alloc,
+        lines
+            .next()
+            .unwrap_or("error: the command line is not valid"),
+    )?;
     if kind == ErrorKind::MissingRequiredArgument {
         line.push(' ')?;
         line.push_str(lines.next().unwrap_or("").trim())?;
@@ -54,7 +59,7 @@ fn line_of(alloc: Global, error: &Error, kind: ErrorKind) -> Result<String, Allo
     Ok(line)
 }
 
-/// That words are wrong, by a line that says how.
+/// Returns the fault of a command line that is not valid, with a copy of the line that reports it.
 pub fn say_wrong(alloc: Global, line: &str) -> Result<WordsFault, AllocError>
     ensures { IfOk result (IsWrong line.now) }
 {

@@ -1,4 +1,4 @@
-//! Command lines: why words ask for nothing, and what is said of them. Both programs stand on it.
+//! Command lines: why a command line requests no action, and the text that reports it. Both programs depend on it.
 #![tactic(auto)]
 
 mod fault;

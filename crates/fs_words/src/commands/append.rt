@@ -12,12 +12,12 @@ use std::alloc::Global;
 
 /// What the help says of the words.
 const WORDS_HELP: &str =
-    "PATH is the file on the volume. HOST is the file of the host, - is standard input";
+    "PATH is the file on the volume. HOST is the host file, or - for standard input";
 
 /// How `append` is written.
 pub(crate) const ROW: Row<'static> = Row {
     usage: "f11fs IMAGE append [OPTIONS] PATH HOST",
-    about: "Put a file of the host behind the end of a file: lines as records where it has variable records, else bytes as they are",
+    about: "Append a host file to a file: lines as records if the file has variable records, otherwise bytes as they are",
     arguments: &[Argument::SomeWords("PATH HOST", WORDS_HELP)],
     conflicts: &[],
 };
@@ -28,7 +28,7 @@ pub(crate) fn action<'a>(alloc: Global, own: &ArgMatches<'_>) -> Result<Action<'
     ensures refused { IfErr result (HasReason (IsUnasked Verb.Append own.now)) }
 {
     if word_count(own) != 2 {
-        let text = "error: append takes a path on the volume and a file of the host";
+        let text = "error: append takes two words: a path on the volume and a host file";
         return Err(say_wrong(alloc, text)?);
     }
     Ok(Action::Change(Change::Append))

@@ -14,7 +14,7 @@ use std::alloc::Global;
 /// How `chmod` is written.
 pub(crate) const ROW: Row<'static> = Row {
     usage: "f11fs IMAGE chmod [OPTIONS] WORD PATH..",
-    about: "Give files another protection. The path of a directory means the file of the directory",
+    about: "Give files another protection. The path of a directory selects the file of the directory",
     arguments: &[
         Argument::Word(
             "protection",

@@ -14,7 +14,7 @@ use std::alloc::Global;
 /// How `chown` is written.
 pub(crate) const ROW: Row<'static> = Row {
     usage: "f11fs IMAGE chown [OPTIONS] OWNER PATH..",
-    about: "Give files another owner. The path of a directory means the file of the directory",
+    about: "Give files another owner. The path of a directory selects the file of the directory",
     arguments: &[
         Argument::Word("owner", "OWNER", "The new owner, such as [1,2]"),
         Argument::SomePaths,

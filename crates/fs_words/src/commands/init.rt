@@ -26,7 +26,7 @@ pub(crate) const ROW: Row<'static> = Row {
         Argument::Number(
             "--files",
             "N",
-            "Make room for N files besides the five reserved ones. Default: one for each 16 blocks",
+            "Make room for N files in addition to the five reserved files. Default: one for each 16 blocks",
         ),
         Argument::Text(
             "--label",
@@ -72,7 +72,7 @@ fn size_of(alloc: Global, text: &str) -> Result<u32, WordsFault>
         None => Err(wrong(
             alloc,
             text,
-            "is no number of blocks, and no device that init --help names",
+            "is neither a number of blocks nor a device that init --help lists",
         )?),
     }
 }

@@ -13,7 +13,7 @@ use std::alloc::Global;
 /// How `purge` is written.
 pub(crate) const ROW: Row<'static> = Row {
     usage: "f11fs IMAGE purge [OPTIONS] [-k N] PATH..",
-    about: "Remove all but the highest versions of each name, and their files",
+    about: "Remove all but the highest version of each name, and delete files that have no name left",
     arguments: &[
         Argument::Number(
             "-k",

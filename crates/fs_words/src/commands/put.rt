@@ -32,7 +32,7 @@ pub(crate) const ROW: Row<'static> = Row {
         Argument::Text(
             "--like",
             "PATH",
-            "Copy the record type and carriage control of this file. Take the larger record size.\nWith -b: copy all attributes of this file but the end of file",
+            "Copy the record type and carriage control of this file. Use the larger record size.\nWith -b: copy all attributes of this file except the end of file",
         ),
         Argument::Flag(
             "--contiguous",
@@ -50,7 +50,7 @@ pub(crate) const ROW: Row<'static> = Row {
         ),
         Argument::Flag(
             "-p",
-            "Give each new file the modification time of its host file, in the local time zone. --stamp says another time",
+            "Give each new file the modification time of its host file, in the local time zone. --stamp sets another time",
         ),
         Argument::Flag(
             "-r",
@@ -58,7 +58,7 @@ pub(crate) const ROW: Row<'static> = Row {
         ),
         Argument::Flag(
             "--skip",
-            "With -r: leave out what has no name on the volume, and say which. Default: refuse it",
+            "With -r: leave out what has no valid name on the volume, and print its name. Default: refuse it",
         ),
         Argument::SomePaths,
     ],
@@ -117,7 +117,7 @@ fn form_of(alloc: Global, text: Option<&str>) -> Result<Option<[u8; 4]>, WordsFa
         None => Err(wrong(
             alloc,
             text,
-            "is no form, as variable,cr,0; put --help has the words",
+            "is not a valid form, such as variable,cr,0; put --help lists the words",
         )?),
     }
 }

@@ -13,11 +13,11 @@ use std::alloc::Global;
 /// What the help says of the kinds.
 const KINDS_HELP: &str = "What to repair, as check --all finds it:
 used: mark blocks of files as used that are marked as free
-share: give runs of files with blocks that files before them hold too blocks of their own
-double: give the second of two entries with one name and version the next version
+share: move runs of blocks that a file shares with an earlier file to free blocks
+double: give the later of two entries with the same name and version the next version
 names: remove entries that name no file
 lost: enter files that no directory names in a directory
-free: mark blocks as free that are marked as used and that no file holds
+free: mark blocks as free that are marked as used and belong to no file
 all: all of these";
 
 /// How `repair` is written.
@@ -28,7 +28,7 @@ pub(crate) const ROW: Row<'static> = Row {
         Argument::Text(
             "--into",
             "DIR",
-            "With lost: enter the files in this directory. Default: [1,3], which is made if it is not there",
+            "With lost: enter the files in this directory. Default: [1,3], which is made if it does not exist",
         ),
         Argument::SomeWords("KIND", KINDS_HELP),
     ],

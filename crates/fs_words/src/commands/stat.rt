@@ -4,7 +4,7 @@ use crate::arguments::{Argument, Row};
 /// How `stat` is written.
 pub(crate) const ROW: Row<'static> = Row {
     usage: "f11fs IMAGE stat [OPTIONS] PATH..",
-    about: "Show what is known of each file, one field a line",
+    about: "Show the fields of each file, one field a line",
     arguments: &[Argument::SomePaths],
     conflicts: &[],
 };

@@ -12,7 +12,7 @@ pub(crate) const ROW: Row<'static> = Row {
     arguments: &[
         Argument::Flag(
             "-t",
-            "Write records as lines where that is lossless. Default: the bytes up to the end of file",
+            "Write records as lines if that is lossless. Default: the bytes up to the end of file",
         ),
         Argument::Paths,
     ],

@@ -11,7 +11,7 @@ use std::alloc::Global;
 
 /// What the help says of the words.
 const WORDS_HELP: &str =
-    "FILE is an archive of tar on the host, - or nothing is standard input. DIR is the directory of the volume below which the files go";
+    "FILE is a tar archive on the host, or - for standard input. Default: standard input. The files are stored below the directory DIR of the volume";
 
 /// How `untar` is written.
 pub(crate) const ROW: Row<'static> = Row {
@@ -27,7 +27,7 @@ pub(crate) fn action<'a>(alloc: Global, own: &ArgMatches<'_>) -> Result<Action<'
     ensures refused { IfErr result (HasReason (IsUnasked Verb.Untar own.now)) }
 {
     if word_count(own) > 2 {
-        let text = "error: untar takes an archive and a directory, and no more words";
+        let text = "error: untar takes at most two words: an archive and a directory";
         return Err(say_wrong(alloc, text)?);
     }
     Ok(Action::Change(Change::Untar))

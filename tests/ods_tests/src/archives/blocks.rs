@@ -30,7 +30,10 @@ pub fn finds(
     let Ok(Some(found)) = next_member(archive, at) else {
         return false;
     };
-    has_path(rt, &found, path) && found.mtime == mtime && found.bytes == bytes && found.next == next
+    has_path(rt, &found, path)
+        && found.mtime == Some(mtime)
+        && found.bytes == bytes
+        && found.next == next
 }
 
 /// Whether the member has this path.

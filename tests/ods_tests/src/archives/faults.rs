@@ -3,7 +3,7 @@ use super::blocks::{archive, block, finds};
 use ods_archive::ArchiveFault::{
     Base256, CutBlock, NoMagic, NoMember, NoNumber, NoOctal, NoRecord, PastEnd, WrongSum,
 };
-use ods_archive::{ArchiveFault, next_member, value_of};
+use ods_archive::{ArchiveFault, Kind, next_member, value_of};
 use std::test::Fail;
 
 /// Whether the archive is refused so at its front.
@@ -60,10 +60,72 @@ fn headers_are_refused(rt: HostRuntime) -> Result<(), Fail> {
     assert!(rt; faults(&changed(124, b"00000000009"), NoOctal(124)));
     assert!(rt; faults(&changed(136, b"0 0"), NoOctal(136)));
     assert!(rt; faults(&changed(136, b"-1"), NoOctal(136)));
-    assert!(rt; faults(&changed(124, b"\x80\0\0\0\0\0\0\0\0\0\0\x06"), Base256(124)));
+    assert!(rt;
+        faults(
+            &changed(124, b"\xff\xff\xff\xff\xff\xff\xff\xff\xff\xff\xff\x06"),
+            Base256(124)
+        )
+    );
+    assert!(rt; faults(&changed(124, b"\x81\0\0\0\0\0\0\0\0\0\0\x06"), Base256(124)));
+    assert!(rt;
+        faults(
+            &changed(124, b"\x80\0\0\0\x80\0\0\0\0\0\0\x06"),
+            Base256(124)
+        )
+    );
+    assert!(rt; faults(&changed(124, b"\x80\0\0\0\x7f\0\0\0\0\0\0\x06"), PastEnd(0)));
     assert!(rt; faults(&good, PastEnd(0)));
     assert!(rt; faults(&changed(124, b"777777777777"), PastEnd(0)));
     Ok(())
+}
+
+/// A size and a time in base 256; a time before 1970 is none.
+#[test]
+fn numbers_in_base_256_are_read(rt: HostRuntime) -> Result<(), Fail> {
+    let hello = block(&[(0, b"hello\n")]);
+    let all = archive(rt, &[changed(124, b"\x80\0\0\0\0\0\0\0\0\0\0\x06"), hello])?;
+    assert!(rt; finds(rt, &all, 0, (b"d/a.txt", 1_000_000_000, b"hello\n", 1_024)));
+    let all = archive(
+        rt,
+        &[changed(136, b"\x80\0\0\0\0\0\0\x02\0\0\x01\0"), hello],
+    )?;
+    assert!(rt; finds(rt, &all, 0, (b"d/a.txt", 8_589_934_848, b"hello\n", 1_024)));
+    let all = archive(
+        rt,
+        &[
+            changed(136, b"\xff\xff\xff\xff\xff\xff\xff\xff\xed\x31\x08\x80"),
+            hello,
+        ],
+    )?;
+    assert!(rt; has_no_time(&all));
+    Ok(())
+}
+
+/// A header before POSIX has no magic; its file with a slash at the end is a directory.
+#[test]
+fn headers_before_posix_are_read(rt: HostRuntime) -> Result<(), Fail> {
+    let hello = block(&[(0, b"hello\n")]);
+    let old = changed_twice((156, b"\0"), (257, b"\0\0\0\0\0\0\0\0"));
+    let all = archive(rt, &[old, hello])?;
+    assert!(rt; finds(rt, &all, 0, (b"d/a.txt", 1_000_000_000, b"hello\n", 1_024)));
+    assert!(rt; is_directory(&all) == Some(false));
+    let folder = changed_twice((7, b"/"), (257, b"\0\0\0\0\0\0\0\0"));
+    assert!(rt; is_directory(&folder) == Some(true));
+    assert!(rt; is_directory(&changed_twice((7, b"/"), (124, b"00000000000"))) == Some(false));
+    Ok(())
+}
+
+/// Whether the first member is a directory.
+fn is_directory(archive: &[u8]) -> Option<bool> {
+    match next_member(archive, 0) {
+        Ok(Some(found)) => Some(matches!(found.kind, Kind::Directory)),
+        _ => None,
+    }
+}
+
+/// Whether the first member has no time.
+fn has_no_time(archive: &[u8]) -> bool {
+    matches!(next_member(archive, 0), Ok(Some(found)) if found.mtime.is_none())
 }
 
 /// Spaces before the digits, and a space or a NUL behind them; all twelve may be digits, and blanks alone are 0.
@@ -109,10 +171,12 @@ fn extended_headers_are_refused(rt: HostRuntime) -> Result<(), Fail> {
     let all = archive(rt, &[front, block(&[(0, b"6 a=b\n")])])?;
     assert!(rt; faults(&all, CutBlock(1_024)));
     let all = archive(rt, &[front, block(&[(0, b"6 a=b\n")]), block(&[])])?;
-    assert!(rt; faults(&all, NoMagic(1_281)));
-    for kind in [b"x", b"g"] {
+    assert!(rt; faults(&all, WrongSum(1_172)));
+    let all = archive(rt, &[front, block(&[(0, b"6 a=b\n")]), changed(156, b"g")])?;
+    assert!(rt; faults(&all, NoMember(1_024)));
+    for kind in [b"x", b"L", b"K"] {
         let all = archive(rt, &[front, block(&[(0, b"6 a=b\n")]), changed(156, kind)])?;
-        assert!(rt; faults(&all, NoMember(1_024)));
+        assert!(rt; faults(&all, PastEnd(1_024)));
     }
     for text in [b"7 a=b\n", b"5 a=b\n", b"6 a-b\n", b"06a=b\n", b"6 a=bc"] {
         let all = archive(rt, &[front, block(&[(0, text)]), file, block(&[])])?;
@@ -138,7 +202,7 @@ fn records_say_numbers(rt: HostRuntime) -> Result<(), Fail> {
     assert!(rt; finds(rt, &all, 0, (b"d/a.txt", 7, b"he", 2_048)));
     for (text, fault) in [
         (b"9 size=x\n13 mtime=7.9\n", NoNumber(1_024)),
-        (b"9 size=2\n13 mtime=-.9\n", NoNumber(1_024)),
+        (b"9 size=2\n13 mtime=x.9\n", NoNumber(1_024)),
         (b"9 size=2\n13 mtime=7.9 ", NoRecord(521)),
     ] {
         let all = archive(
@@ -147,6 +211,17 @@ fn records_say_numbers(rt: HostRuntime) -> Result<(), Fail> {
         )?;
         assert!(rt; faults(&all, fault));
     }
+    let early = b"9 size=2\n13 mtime=-.9\n";
+    let all = archive(
+        rt,
+        &[
+            front,
+            block(&[(0, early)]),
+            changed(0, b"d"),
+            block(&[(0, b"hello\n")]),
+        ],
+    )?;
+    assert!(rt; has_no_time(&all));
     let text = b"12 size=9999\n9 mtim=7\n";
     let all = archive(
         rt,

@@ -1,6 +1,6 @@
 //! What GNU tar 1.34 wrote, block by block, in each of its formats.
 use super::blocks::{archive, block, finds, has_path};
-use ods_archive::{Kind, next_member, value_of};
+use ods_archive::{ArchiveFault, Kind, next_member, value_of};
 use std::test::Fail;
 
 /// 120 bytes.
@@ -134,7 +134,7 @@ fn pax_is_read(rt: HostRuntime) -> Result<(), Fail> {
     Ok(())
 }
 
-/// `tar --format=gnu`: the old magic, and a long name as a member of its own, which is no file.
+/// `tar --format=gnu`: the old magic, and a long name before its member.
 #[test]
 fn old_gnu_is_read(rt: HostRuntime) -> Result<(), Fail> {
     let all = archive(
@@ -164,14 +164,38 @@ fn old_gnu_is_read(rt: HostRuntime) -> Result<(), Fail> {
                 (257, b"ustar  "),
             ]),
             block(&[(0, b"d/"), (2, LONG)]),
+            block(&[
+                (0, b"d/a.txt"),
+                (100, b"0000644"),
+                (108, b"0000000"),
+                (116, b"0000000"),
+                (124, b"00000000006"),
+                (136, b"07346545000"),
+                (148, b"007147"),
+                (155, b" 0"),
+                (257, b"ustar  "),
+            ]),
+            block(&[(0, b"hello\n")]),
         ],
     )?;
     assert!(rt; finds(rt, &all, 0, (b"d/a.txt", 1_000_000_000, b"hello\n", 1_024)));
-    let Ok(Some(found)) = next_member(&all, 1_024) else {
-        unreachable!()
-    };
-    assert!(rt; matches!(found.kind, Kind::Other));
-    assert!(rt; found.bytes.len() == 123);
-    assert!(rt; found.next == 2_048);
+    let mut path = Vec::new(rt.alloc());
+    path.extend_from_slice(b"d/")?;
+    path.extend_from_slice(LONG)?;
+    assert!(rt;
+        finds(
+            rt,
+            &all,
+            1_024,
+            (path.as_slice(), 1_000_000_000, b"hello\n", 3_072)
+        )
+    );
+    // Without its member it is none.
+    assert!(rt;
+        matches!(
+            next_member(&all[..2_048], 1_024),
+            Err(ArchiveFault::CutBlock(2_048))
+        )
+    );
     Ok(())
 }

@@ -1,7 +1,7 @@
 //! Members of one path, by the bytes at which they begin.
 use super::blocks::{archive, block};
-use ods_archive::ArchiveFault::NoMagic;
-use ods_archive::{Kind, Member, Twin, TwinFault, first_twin, head_of, next_member};
+use ods_archive::ArchiveFault::WrongSum;
+use ods_archive::{Member, Twin, TwinFault, first_twin, head_of};
 use std::alloc::AllocError;
 use std::test::Fail;
 
@@ -62,7 +62,7 @@ fn paths_are_told_apart(rt: HostRuntime) -> Result<(), Fail> {
     Ok(())
 }
 
-/// Headers of all members, and long names of GNU tar, name nothing; what stands behind the first twins is not looked at.
+/// Headers of all members, and unknown types, name nothing; a long name is that of the member behind it; what stands behind the first twins is not looked at.
 #[test]
 fn other_types_have_no_twins(rt: HostRuntime) -> Result<(), Fail> {
     let long = block(&[
@@ -78,13 +78,23 @@ fn other_types_have_no_twins(rt: HostRuntime) -> Result<(), Fail> {
     ]);
     let name = block(&[(0, &[b'z'; 123])]);
     let odd = block(&[(0, b"odd")]);
-    let all = archive(rt, &[long, name, long, name])?;
-    assert!(rt;
-        matches!(next_member(&all, 0), Ok(Some(found)) if matches!(found.kind, Kind::Other))
-    );
+    let file = files(rt, &[b"a", b"b"])?;
+    let mut all = archive(rt, &[long, name])?;
+    all.extend_from_slice(&file[..512])?;
+    all.extend_from_slice(&file[512..1_024])?;
     assert!(rt; first_twin(rt.alloc(), &all) == Ok(None));
+    let mut both = archive(rt, &[long, name])?;
+    both.extend_from_slice(&file[..512])?;
+    both.extend_from_slice(&all)?;
+    assert!(rt;
+        first_twin(rt.alloc(), &both)
+            == Ok(Some(Twin {
+                first: 0,
+                second: 1_536
+            }))
+    );
     let all = archive(rt, &[long, name, odd])?;
-    assert!(rt; first_twin(rt.alloc(), &all) == Err(TwinFault::Archive(NoMagic(1_281))));
+    assert!(rt; first_twin(rt.alloc(), &all) == Err(TwinFault::Archive(WrongSum(1_172))));
     let mut bytes = files(rt, &[b"a", b"a"])?;
     bytes.extend_from_slice(&odd)?;
     assert!(rt;

@@ -8,6 +8,9 @@ use std::test::Fail;
 /// The stamp of new files where none is given.
 const STAMP: &str = "01JAN80000000";
 
+/// What `--version` prints after the name.
+const VERSION: &str = "2.0.0 (12345678)";
+
 /// What the words ask for that say nothing of limit, stamp, file and scripts.
 fn asked<'a>(
     alloc: Global,
@@ -43,7 +46,7 @@ fn words_that_are_right(rt: HostRuntime) -> Result<(), Fail> {
         ),
         (["--", "--header"].as_slice(), Some("--header"), None),
     ] {
-        let found = parse_words(rt.alloc(), words).ok().ok_or("wrong words")?;
+        let found = parse_words(rt.alloc(), words, VERSION).ok().ok_or("wrong words")?;
         let wanted = asked(rt.alloc(), image, header)?;
         assert!(rt; found == wanted, "{words:?}");
     }
@@ -62,7 +65,7 @@ fn runs_that_words_ask_for(rt: HostRuntime) -> Result<(), Fail> {
         (["a.dsk"].as_slice(), Run::Scripts),
         (["--limit", "1"].as_slice(), Run::Scripts),
     ] {
-        let found = parse_words(rt.alloc(), words).ok().ok_or("wrong words")?;
+        let found = parse_words(rt.alloc(), words, VERSION).ok().ok_or("wrong words")?;
         assert!(rt; run_for(&found) == run, "{words:?}");
     }
     Ok(())
@@ -84,7 +87,7 @@ const SERVED: [&str; 9] = [
 #[test]
 fn words_of_a_served_run(rt: HostRuntime) -> Result<(), Fail> {
     for words in [SERVED.as_slice()] {
-        let found = parse_words(rt.alloc(), words).ok().ok_or("wrong words")?;
+        let found = parse_words(rt.alloc(), words, VERSION).ok().ok_or("wrong words")?;
         assert!(rt; found.image == Some("a.dsk") && found.out == Some("b.dsk"));
         assert!(rt; found.header.is_none() && found.limit == 65_536);
         assert!(rt; *found.stamp.text() == *b"31DEC99235959");
@@ -95,7 +98,7 @@ fn words_of_a_served_run(rt: HostRuntime) -> Result<(), Fail> {
 
 /// The line about words that are wrong.
 fn wrong(alloc: Global, words: &[&str]) -> Result<String, Fail> {
-    match parse_words(alloc, words) {
+    match parse_words(alloc, words, VERSION) {
         Err(WordsFault::Wrong(line)) => Ok(line),
         _ => Err("words that are not wrong".into()),
     }
@@ -187,7 +190,7 @@ const HELP: [&str; 21] = [
 
 /// The help that these words ask for.
 fn help(alloc: Global, words: &[&str]) -> Result<String, Fail> {
-    match parse_words(alloc, words) {
+    match parse_words(alloc, words, VERSION) {
         Err(WordsFault::Help(text)) => Ok(text),
         _ => Err("words that ask for no help".into()),
     }

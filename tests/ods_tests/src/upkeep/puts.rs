@@ -94,7 +94,7 @@ fn several_files_go_into_a_directory(rt: HostRuntime) -> Result<(), Fail> {
         bytes: b"2",
     };
     let remark = putting.put(alloc, &mut filing, &b).ok().ok_or("b")?;
-    let said = "put as bytes, since the last line has no LF; -t makes records";
+    let said = "stored as bytes, because the last line has no LF; -t stores lines as records";
     let remark = remark.ok_or("a remark")?;
     assert!(rt; remark.as_str() == said);
     let volume = done(alloc, Ok(filing.into_mounted()))?;

@@ -20,13 +20,13 @@ loop-directory-preserved g c =
     let at : slice_get c.args.directories.now c.loop-directory.directory-index ≡ Some directory =
     slice_get_read c.args.directories.now _ c.loop-directory.directory-index directory refl c.loop-directory-test.true c.directory-item.is in
     let old = c.loop-directory.status in
-    let s = c.in_ok-get_directory.field-0 in
+    let s = c.in_ok-done.done in
     let new = c.or-status.result in
     record {
-      may = either_holds (λ x. may_name x ≡ true) old s new c.or-status.ensures.done c.or-status.ensures.fault c.loop-directory.invariant.may c.in_ok-get_directory.ensures.status;
+      may = either_holds (λ x. may_name x ≡ true) old s new c.or-status.ensures.done c.or-status.ensures.fault c.loop-directory.invariant.may c.in_ok-done.ensures.status;
       done = λ e.
           let both = both_done old s new c.or-status.ensures.done c.or-status.ensures.fault e in
-          one_more (IsDirectoryGot I L user Gives) c.args.directories.now c.loop-directory.directory-index directory at (c.loop-directory.invariant.done both.0) (c.in_ok-get_directory.ensures.done both.1);
+          one_more (IsDirectoryGot I L user Gives) c.args.directories.now c.loop-directory.directory-index directory at (c.loop-directory.invariant.done both.0) (c.in_ok-done.ensures.done both.1);
     }
 
 pub returns-clause-done : goal.returns-clause-done
