@@ -3,12 +3,13 @@
    With TURN set, only writes to files that the program opened are counted, and the first byte of that one is another. With MEDDLE set to a path,
    only calls of fsync are counted, and before that one another program appends a byte to the file of this path.
    With FULL set no call is counted: so many bytes are written to files that the program opened, and then the disk is full.
-   What is asked of /proc is not counted, since it changes from run to run. It writes which call it was to the file FAILED. For LD_PRELOAD: see
+   What is asked of /proc and /sys is not counted, since it changes from run to run. It writes which call it was to the file FAILED. For LD_PRELOAD: see
    tests/faults and tests/trees. */
 #define _GNU_SOURCE
 #include <dlfcn.h>
 #include <errno.h>
 #include <fcntl.h>
+#include <linux/magic.h>
 #include <pthread.h>
 #include <stdarg.h>
 #include <stdio.h>
@@ -16,6 +17,7 @@
 #include <string.h>
 #include <sys/stat.h>
 #include <sys/syscall.h>
+#include <sys/vfs.h>
 #include <unistd.h>
 
 static long left, room, threads;
@@ -38,8 +40,14 @@ static int is_it(const char *what, long of) {
     return 1;
 }
 
-/* Whether a path is one of /proc. */
-static int is_process(const char *path) { return !strncmp(path, "/proc", 5); }
+/* Whether a path is one of /proc or /sys. */
+static int is_of_kernel(const char *path) { return !strncmp(path, "/proc", 5) || !strncmp(path, "/sys", 4); }
+
+/* Whether a file is one of /proc or /sys. */
+static int shows_kernel(int file) {
+    struct statfs found;
+    return !syscall(SYS_fstatfs, file, &found) && (found.f_type == PROC_SUPER_MAGIC || found.f_type == SYSFS_MAGIC);
+}
 
 /* Whether a path is one that a program opens only to hold the places of the standard streams. */
 static int is_held(const char *path) { return !strcmp(path, "/dev/null") || !strcmp(path, "/"); }
@@ -84,7 +92,9 @@ static ssize_t filled(int file, const void *bytes, size_t count) {
     return done;
 }
 
-ssize_t read(int file, void *bytes, size_t count) { return moved(SYS_read, "read", file, bytes, count); }
+ssize_t read(int file, void *bytes, size_t count) {
+    return shows_kernel(file) ? syscall(SYS_read, file, bytes, count) : moved(SYS_read, "read", file, bytes, count);
+}
 
 ssize_t write(int file, const void *bytes, size_t count) {
     return getenv("FULL") && file > 2 ? filled(file, bytes, count) : moved(SYS_write, "write", file, bytes, count);
@@ -98,7 +108,7 @@ int open(const char *path, int flags, ...) {
     va_start(more, flags);
     mode = flags & O_CREAT ? va_arg(more, int) : 0;
     va_end(more);
-    if (fails() && !is_process(path) && is_it(is_held(path) ? "hold" : "open", flags & O_ACCMODE)) {
+    if (fails() && !is_of_kernel(path) && is_it(is_held(path) ? "hold" : "open", flags & O_ACCMODE)) {
         errno = EACCES;
         return -1;
     }
@@ -137,9 +147,9 @@ int fchown(int file, uid_t user, gid_t group) { return saves("fchown", file) ? -
 int fchmod(int file, mode_t mode) { return saves("fchmod", file) ? -1 : syscall(SYS_fchmod, file, mode); }
 
 int statx(int at, const char *path, int flags, unsigned mask, struct statx *found) {
-    return !is_process(path) && saves("statx", 0) ? -1 : syscall(SYS_statx, at, path, flags, mask, found);
+    return !is_of_kernel(path) && saves("statx", 0) ? -1 : syscall(SYS_statx, at, path, flags, mask, found);
 }
 
 ssize_t readlink(const char *path, char *text, size_t room) {
-    return !is_process(path) && saves("readlink", 0) ? -1 : syscall(SYS_readlink, path, text, room);
+    return !is_of_kernel(path) && saves("readlink", 0) ? -1 : syscall(SYS_readlink, path, text, room);
 }
