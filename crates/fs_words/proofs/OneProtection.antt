@@ -1,5 +1,5 @@
 -- A text says one protection at most.
-use Rattle.std.proofs.Common.{◌≡◌, ◌∙◌, ◌+◌, ◌*◌, ◌/◌, ◌%◌, ◌<◌, ◌≤◌, ℕ, List, [], ◌∷◌, ◌++◌, Option, Some, None, MatchOption, arith, refl, sym, ap, subst, inl, inr}
+use Rattle.std.proofs.Common.{◌≡◌, ◌∙◌, ◌/◌, ◌%◌, ◌≤◌, ℕ, List, [], ◌∷◌, ◌++◌, Option, Some, None, MatchOption, arith, sym, ap, subst, inl, inr}
 use Rattle.std.proofs.lemmas.List.{append_cancel_right}
 use Rattle.ods_text.specs.Cuts.{cut_of, IsPair}
 use Rattle.ods_text.specs.One.{IsTheOne}

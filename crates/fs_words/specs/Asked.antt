@@ -10,7 +10,6 @@ use Rattle.ods_records.specs.declared.kind.Wanted.TheVariants.{ByKind, Text, Bin
 use Rattle.ods_text.specs.Numbers.{IsNumber, IsLargeNumber}
 use Rattle.fs_words.specs.declared.actions.Action.{Action}
 use Rattle.fs_words.specs.declared.actions.Action.TheVariants as action
-use Rattle.fs_words.specs.declared.actions.Change.{Change}
 use Rattle.fs_words.specs.declared.actions.Change.TheVariants as change
 use Rattle.fs_words.specs.declared.actions.FromWords.{FromWords}
 use Rattle.fs_words.specs.declared.actions.PutWords.{PutWords}

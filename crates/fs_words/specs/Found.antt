@@ -1,5 +1,5 @@
 -- The request in the words of a command, except its own part.
-use Rattle.std.specs.Prelude.{◌≡◌, ℕ, Bool, true, false, List, codes, Option, Some, None, MatchBool, IsTrue, is_some, map}
+use Rattle.std.specs.Prelude.{◌≡◌, ℕ, Bool, true, List, codes, Option, Some, None, MatchBool, IsTrue, is_some, map}
 use Rattle.std.specs.Borrow.{Bor}
 use Rattle.clap.specs.declared.parser.matches.ArgMatches.{ArgMatches}
 use Rattle.ods_request.specs.Stamps.{is_stamp}

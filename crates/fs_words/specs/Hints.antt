@@ -42,19 +42,19 @@ IsNear word near = MatchOption (habit_named word)
 
 -- the usage of the command line
 unfoldable pub usage : List ℕ
-usage = codes "usage: f11fs [OPTIONS] IMAGE COMMAND [WORD..]\nf11fs --help names the commands"
+usage = codes "usage: f11fs [OPTIONS] IMAGE COMMAND [WORD..]\nf11fs --help lists the commands"
 
 -- a command is missing
 unfoldable pub wanting_line : List ℕ
-wanting_line = codes "error: a command is wanting\n" ++ usage
+wanting_line = codes "error: no command is given\n" ++ usage
 
 -- a word is not a command, and this one is near
 unfoldable pub near_line : List ℕ → List ℕ → List ℕ
-near_line word name = codes "f11fs: '" ++ (word ++ (codes "' is no command; '" ++ (name ++ codes "' is near")))
+near_line word name = codes "f11fs: unknown command '" ++ (word ++ (codes "'; did you mean '" ++ (name ++ codes "'?")))
 
 -- a word is not a command, and none is near
 unfoldable pub strange_line : List ℕ → List ℕ
-strange_line word = codes "f11fs: '" ++ word ++ codes "' is no command; f11fs --help names them"
+strange_line word = codes "f11fs: unknown command '" ++ word ++ codes "'; f11fs --help lists the commands"
 
 abbrev pub unknown_line : List ℕ → Option (List ℕ) → List ℕ
 unknown_line word (Some name) = near_line word name
@@ -62,7 +62,7 @@ unknown_line word None = strange_line word
 
 -- a word is not a command; IMAGE comes after it
 unfoldable pub misplaced_line : List ℕ → List ℕ → List ℕ
-misplaced_line image word = codes "f11fs: '" ++ (word ++ (codes "' is no command; IMAGE stands first: f11fs " ++ (word ++ (codes " " ++ image))))
+misplaced_line image word = codes "f11fs: unknown command '" ++ (word ++ (codes "'; IMAGE comes first: f11fs " ++ (word ++ (codes " " ++ image))))
 
 -- the message for a word that is not a command
 abbrev pub IsUnknown : List ℕ → WordsFault → Type 0

@@ -1,5 +1,5 @@
 -- Which options serve which commands.
-use Rattle.std.specs.Prelude.{ℕ, Bool, true, false, ◌||◌, List, [], ◌∷◌, codes}
+use Rattle.std.specs.Prelude.{ℕ, Bool, true, false, List, [], ◌∷◌, codes}
 use Rattle.fs_words.specs.declared.options.Choice.{Choice}
 use Rattle.fs_words.specs.declared.options.Choice.TheVariants as option
 use Rattle.fs_words.specs.declared.verbs.Verb.{Verb}

@@ -40,50 +40,58 @@ use clap::{ArgMatches, Command};
 use ods_words::WordsFault;
 use std::alloc::{AllocError, Global};
 
+/// The row of the commands of a file, which have no name.
+const FILE_ROW: Row<'static> = Row {
+    usage: "",
+    about: "",
+    arguments: &[],
+    conflicts: &[],
+};
+
 /// Returns a command with only its own arguments.
-#[tactic(auto, unfolding(crate::specs::Rules::own_rules, crate::specs::Rules::command_app))]
+#[tactic(auto, unfolding(crate::specs::Rules::command_app))]
 pub(crate) fn command_of<'a>(alloc: Global, verb: Verb) -> Result<Command<'a>, AllocError>
     ensures { IfOk result (λ c. app_of c ≡ command_app verb) }
 {
-    match verb {
-        Verb::Ls => row_command(alloc, verb, &ls::ROW),
-        Verb::Find => row_command(alloc, verb, &find::ROW),
-        Verb::Stat => row_command(alloc, verb, &stat::ROW),
-        Verb::Cat => row_command(alloc, verb, &cat::ROW),
-        Verb::Get => row_command(alloc, verb, &get::ROW),
-        Verb::Tar => row_command(alloc, verb, &tar::ROW),
-        Verb::Df => row_command(alloc, verb, &df::ROW),
-        Verb::Info => row_command(alloc, verb, &info::ROW),
-        Verb::Du => row_command(alloc, verb, &du::ROW),
-        Verb::Check => row_command(alloc, verb, &check::ROW),
-        Verb::Rescue => row_command(alloc, verb, &rescue::ROW),
-        Verb::Cmp => row_command(alloc, verb, &cmp::ROW),
-        Verb::Put => row_command(alloc, verb, &put::ROW),
-        Verb::Untar => row_command(alloc, verb, &untar::ROW),
-        Verb::Cp => row_command(alloc, verb, &cp::ROW),
-        Verb::Mv => row_command(alloc, verb, &mv::ROW),
-        Verb::Rm => row_command(alloc, verb, &rm::ROW),
-        Verb::Purge => row_command(alloc, verb, &purge::ROW),
-        Verb::Mkdir => row_command(alloc, verb, &mkdir::ROW),
-        Verb::Rmdir => row_command(alloc, verb, &rmdir::ROW),
-        Verb::Truncate => row_command(alloc, verb, &truncate::ROW),
-        Verb::Append => row_command(alloc, verb, &append::ROW),
-        Verb::Chmod => row_command(alloc, verb, &chmod::ROW),
-        Verb::Chown => row_command(alloc, verb, &chown::ROW),
-        Verb::Label => row_command(alloc, verb, &label::ROW),
-        Verb::Repair => row_command(alloc, verb, &repair::ROW),
-        Verb::Init => row_command(alloc, verb, &init::ROW),
-        Verb::File => Ok(Command::new(alloc, verb.name())),
-    }
+    let command = command_in(alloc, verb.name(), &row_of(verb))?;
+    Ok(command)
 }
 
-/// A command by its row.
-fn row_command<'a>(alloc: Global, verb: Verb, row: &Row<'a>) -> Result<Command<'a>, AllocError>
-    requires { rules_in row.now ≡ own_rules verb }
-    ensures { IfOk result (λ c. app_of c ≡ command_app verb) }
+/// The row of a command.
+#[tactic(auto, unfolding(crate::specs::Rules::own_rules))]
+fn row_of(verb: Verb) -> Row<'static>
+    ensures { rules_in result ≡ own_rules verb }
 {
-    let command = command_in(alloc, verb.name(), row)?;
-    Ok(command)
+    match verb {
+        Verb::Ls => ls::ROW,
+        Verb::Find => find::ROW,
+        Verb::Stat => stat::ROW,
+        Verb::Cat => cat::ROW,
+        Verb::Get => get::ROW,
+        Verb::Tar => tar::ROW,
+        Verb::Df => df::ROW,
+        Verb::Info => info::ROW,
+        Verb::Du => du::ROW,
+        Verb::Check => check::ROW,
+        Verb::Rescue => rescue::ROW,
+        Verb::Cmp => cmp::ROW,
+        Verb::Put => put::ROW,
+        Verb::Untar => untar::ROW,
+        Verb::Cp => cp::ROW,
+        Verb::Mv => mv::ROW,
+        Verb::Rm => rm::ROW,
+        Verb::Purge => purge::ROW,
+        Verb::Mkdir => mkdir::ROW,
+        Verb::Rmdir => rmdir::ROW,
+        Verb::Truncate => truncate::ROW,
+        Verb::Append => append::ROW,
+        Verb::Chmod => chmod::ROW,
+        Verb::Chown => chown::ROW,
+        Verb::Label => label::ROW,
+        Verb::Repair => repair::ROW,
+        Verb::Init => init::ROW,
+        Verb::File => FILE_ROW,
+    }
 }
 
 /// Returns the request in the words of a command. `out` is the value of `-o`.

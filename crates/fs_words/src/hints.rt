@@ -7,9 +7,9 @@ use crate::verbs::{Verb, nearest};
 use ods_words::{WordsFault, say_wrong};
 use std::alloc::{AllocError, Global};
 
-/// How the words stand.
+/// The usage of the command line.
 const USAGE: &str =
-    "usage: f11fs [OPTIONS] IMAGE COMMAND [WORD..]\nf11fs --help names the commands";
+    "usage: f11fs [OPTIONS] IMAGE COMMAND [WORD..]\nf11fs --help lists the commands";
 
 /// Returns the message that words are missing: all of them, or the command.
 #[tactic(auto, unfolding(crate::specs::Hints::usage, crate::specs::Hints::wanting_line))]
@@ -19,7 +19,7 @@ pub(crate) fn wanting(alloc: Global, all: bool) -> Result<WordsFault, AllocError
     if all {
         return say_wrong(alloc, USAGE);
     }
-    Ok(WordsFault::Wrong(format!(in alloc; "error: a command is wanting\n{USAGE}")?))
+    Ok(WordsFault::Wrong(format!(in alloc; "error: no command is given\n{USAGE}")?))
 }
 
 /// Returns the message that the word after the image is not a command. The image may come after it.
@@ -32,13 +32,13 @@ pub(crate) fn before_image(alloc: Global, image: &str, word: &str) -> Result<Wor
     }
 }
 
-/// That a word is no command, and that the image stands behind it.
+/// The message that a word is not a command, and that the image comes after it.
 #[tactic(auto, unfolding(crate::specs::Hints::misplaced_line))]
 fn misplaced(alloc: Global, image: &str, word: &str) -> Result<WordsFault, AllocError>
     ensures { IfOk result (IsWrong (misplaced_line image.now word.now)) }
 {
     Ok(WordsFault::Wrong(format!(in alloc;
-        "f11fs: '{word}' is no command; IMAGE stands first: f11fs {word} {image}"
+        "f11fs: unknown command '{word}'; IMAGE comes first: f11fs {word} {image}"
     )?))
 }
 
@@ -50,7 +50,7 @@ pub(crate) fn no_command(alloc: Global, word: &str) -> Result<WordsFault, AllocE
     unknown(alloc, word, near)
 }
 
-/// That a word is no command, and that this one is near, or none.
+/// The message that a word is not a command, and which command is near.
 fn unknown(alloc: Global, word: &str, near: Option<&str>) -> Result<WordsFault, AllocError>
     ensures { IfOk result (IsWrong (unknown_line word.now (value_of near.entry))) }
 {
@@ -60,20 +60,22 @@ fn unknown(alloc: Global, word: &str, near: Option<&str>) -> Result<WordsFault, 
     }
 }
 
-/// That a word is no command, and that this one is near.
+/// The message that a word is not a command, and that this one is near.
 #[tactic(auto, unfolding(crate::specs::Hints::near_line))]
 fn say_near(alloc: Global, word: &str, name: &str) -> Result<WordsFault, AllocError>
     ensures { IfOk result (IsWrong (near_line word.now name.now)) }
 {
-    let line = format!(in alloc; "f11fs: '{word}' is no command; '{name}' is near")?;
+    let line = format!(in alloc; "f11fs: unknown command '{word}'; did you mean '{name}'?")?;
     Ok(WordsFault::Wrong(line))
 }
 
-/// That a word is no command, and that none is near.
+/// The message that a word is not a command, and that none is near.
 #[tactic(auto, unfolding(crate::specs::Hints::strange_line))]
 fn say_strange(alloc: Global, word: &str) -> Result<WordsFault, AllocError>
     ensures { IfOk result (IsWrong (strange_line word.now)) }
 {
-    let line = format!(in alloc; "f11fs: '{word}' is no command; f11fs --help names them")?;
+    let line = format!(in alloc;
+        "f11fs: unknown command '{word}'; f11fs --help lists the commands"
+    )?;
     Ok(WordsFault::Wrong(line))
 }

@@ -209,43 +209,17 @@ pub(crate) fn nearest(alloc: Global, word: &str) -> Result<Option<&'static str>,
 fn habit_of(word: &str) -> Option<&'static str>
     ensures { value_of result ≡ habit_named word.now }
 {
-    if word == "dir" {
-        return Some("ls");
+    match word {
+        "dir" | "list" => Some("ls"),
+        "type" | "show" => Some("cat"),
+        "extract" => Some("get"),
+        "copy" => Some("cp"),
+        "move" | "rename" => Some("mv"),
+        "del" | "delete" => Some("rm"),
+        "diff" => Some("cmp"),
+        "fsck" => Some("check"),
+        _ => None,
     }
-    if word == "list" {
-        return Some("ls");
-    }
-    if word == "type" {
-        return Some("cat");
-    }
-    if word == "show" {
-        return Some("cat");
-    }
-    if word == "extract" {
-        return Some("get");
-    }
-    if word == "copy" {
-        return Some("cp");
-    }
-    if word == "move" {
-        return Some("mv");
-    }
-    if word == "rename" {
-        return Some("mv");
-    }
-    if word == "del" {
-        return Some("rm");
-    }
-    if word == "delete" {
-        return Some("rm");
-    }
-    if word == "diff" {
-        return Some("cmp");
-    }
-    if word == "fsck" {
-        return Some("check");
-    }
-    None
 }
 
 /// The first of these commands whose name takes the fewest changes of a letter, where they are few.

@@ -1,5 +1,4 @@
-use Rattle.std.proofs.Common.{rules, map, sym}
-use Rattle.std.proofs.lemmas.List.{append-nil}
+use Rattle.std.proofs.Common.{rules, map}
 use Rattle.fs_words.proofs.Listed.{others_all, others_more, same_more}
 use Rattle.fs_words.proofs.arguments.with_conflicts.Goals as goal
 

@@ -1,7 +1,5 @@
 use Rattle.std.proofs.Common.{rules, ◌≡◌, false}
-use Rattle.clap.specs.Simple.{app_of, with_rule}
-use Rattle.clap.specs.Walk.{Rule, rule_of}
-use Rattle.fs_words.specs.Rules.{with_rules}
+use Rattle.clap.specs.Simple.{app_of}
 use Rattle.fs_words.proofs.Listed.{no_rules}
 use Rattle.fs_words.proofs.parse.with_image.Goals as goal
 

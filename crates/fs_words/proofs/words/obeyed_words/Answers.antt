@@ -1,6 +1,5 @@
-use Rattle.std.proofs.Common.{List, map, refl, subst}
+use Rattle.std.proofs.Common.{map, refl, subst}
 use Rattle.std.proofs.lemmas.Result.{err_from_is_err_and}
-use Rattle.std.specs.Prelude.{IfErr}
 use Rattle.fs_words.specs.Parses.{IsParseOf}
 use Rattle.fs_words.specs.Refused.{HasReason, IsNoCommand, command_refused, unasked, wrong_beside}
 use Rattle.fs_words.specs.Rules.{whole_app}

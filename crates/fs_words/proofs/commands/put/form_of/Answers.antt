@@ -1,4 +1,3 @@
-use Rattle.fs_words.proofs.Refusing.{clap_refuses, words_refused_by, line_refused_by, file_refused_by, both_parts, name_unknown, name_wanting}
 use Rattle.std.proofs.Common.{List, ℕ, subst, sym}
 use Rattle.ods_records.specs.Forms.{IsForm}
 use Rattle.fs_words.proofs.commands.put.form_of.Goals as goal
