@@ -401,8 +401,11 @@ class Untar(Disk):
         refused(self, archive(member("1,2/a.txt;3", TEXT), member("1,2/A.TXT;3", TEXT)), "A.TXT;3", "NameTaken")
 
     def test_names_that_are_none(self) -> None:
-        for path in ("1,2/two.dots.txt", "1,2/longer-than-nine.txt", "a_b_c_d_e_f/x.txt", "1,2/x.text", "1,2/x.txt;40000", "1,2/x.txt;a", "1,2/*.txt", "x y.txt"):
+        for path in ("1,2/two.dots.txt", "1,2/longer-than-nine.txt", "a_b_c_d_e_f/x.txt", "1,2/x.text", "1,2/*.txt", "x y.txt", ".", "1,2/."):
             refused(self, archive(member("good.txt", TEXT), member(path, TEXT)), path, statuses=(2, 5))
+        for version in ("a", "", "03", "32768", "40000", "65536"):
+            path = f"1,2/x.txt;{version}"
+            refused(self, archive(member("good.txt", TEXT), member(path, TEXT)), f"{path}: not a valid version", statuses=(2,))
 
     def test_records_that_say_nothing(self) -> None:
         for keyword, value in (("attributes", "00" * 31), ("attributes", "0x" * 32), ("attributes", ""), ("owner", "[400,1]"), ("owner", "1,2"), ("owner", "x"), ("protection", "17720"),

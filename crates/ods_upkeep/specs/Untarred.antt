@@ -1,14 +1,16 @@
 -- The result of untar for a file of an archive, and why it is not put.
-use Rattle.std.specs.Prelude.{◌≡◌, ◌⊎◌, ℕ, ◌%◌, ◌==◌, true, false, if◌then◌else◌, MatchBool, List, [], length, replicate, Option, Some, None}
+use Rattle.std.specs.Fmt.{decimal}
+use Rattle.std.specs.Prelude.{◌≡◌, ◌≢◌, ◌⊎◌, ℕ, ◌%◌, ◌==◌, ◌≤◌, true, false, if◌then◌else◌, MatchBool, List, [], codes, length, replicate, Option, Some, None}
 use Rattle.ods_text.specs.Cuts.{cut_of}
-use Rattle.ods_text.specs.Numbers.{IsSmallNumber}
 use Rattle.ods_base.specs.Name.{RadName}
 use Rattle.ods_base.specs.declared.file_id.FileId.{FileId}
 use Rattle.ods_files.specs.Body.{are_zeros}
 use Rattle.ods_request.specs.declared.refusals.Refusal.{Refusal}
 use Rattle.ods_paths.specs.Patterns.{has_wildcard}
+use Rattle.ods_paths.specs.declared.bad.BadPath.TheVariants.{Version}
 use Rattle.ods_filing.specs.Amended.{HasGiven, IsWhyNotGiven}
 use Rattle.ods_filing.specs.Filed.{Filed}
+use Rattle.ods_shell.specs.declared.path_fault.PathFault.TheVariants.{Bad}
 use Rattle.ods_upkeep.specs.HostNames.{IsHostName}
 use Rattle.ods_upkeep.specs.HostPut.{IsVersionFor}
 use Rattle.ods_upkeep.specs.PutFor.{IsMadeFor}
@@ -18,25 +20,29 @@ use Rattle.ods_upkeep.specs.Wayside.{IsNotOpen, IsOpen, IsParted, IsWay, StopsOn
 use Rattle.ods_upkeep.specs.Written.{IsUnwritten, IsWritten}
 use Rattle.ods_upkeep.specs.declared.asked.PutForm.TheVariants as form
 use Rattle.ods_upkeep.specs.declared.failure.Why.{Why}
-use Rattle.ods_upkeep.specs.declared.failure.Why.TheVariants.{BadName, Request, Several}
+use Rattle.ods_upkeep.specs.declared.failure.Why.TheVariants.{BadName, Path, Request, Several}
 use Rattle.ods_upkeep.specs.declared.untarring.Packed.{Packed}
 
 -- version 0 is no version: the next one applies
 abbrev pub unless_zero : ℕ → Option ℕ
 unless_zero n = if n == 0 then None else Some n
 
--- The meaning of the last part of a path: a name as of a host file, and after a `;` its version in decimal.
+-- a version in decimal; 0 is none
+abbrev pub IsVersionText : List ℕ → ℕ → Type 0
+IsVersionText digits n = (n ≤ 32767) × (digits ≡ decimal n)
+
+-- The meaning of the last part of a path: a name as of a host file, and after a `;` its version. `.` is a directory.
 abbrev pub SaysFileBy : Option (List ℕ × List ℕ) → List ℕ → RadName → Option ℕ → Type 0
-SaysFileBy None last name version = IsHostName last name × (version ≡ None)
-SaysFileBy (Some cut) last name version = IsHostName cut.0 name × ((n : ℕ) × IsSmallNumber cut.1 n × (version ≡ unless_zero n))
+SaysFileBy None last name version = (last ≢ codes ".") × IsHostName last name × (version ≡ None)
+SaysFileBy (Some cut) last name version = IsHostName cut.0 name × ((n : ℕ) × IsVersionText cut.1 n × (version ≡ unless_zero n))
 
 abbrev pub SaysFile : List ℕ → RadName → Option ℕ → Type 0
 SaysFile last name version = SaysFileBy (cut_of 59 last) last name version
 
 -- why it specifies no file
 abbrev pub SaysNoFileBy : Option (List ℕ × List ℕ) → List ℕ → Why → Type 0
-SaysNoFileBy None last why = IsNoHostName last why
-SaysNoFileBy (Some cut) last why = ((why ≡ BadName) × ((n : ℕ) → IsSmallNumber cut.1 n → ⊥)) ⊎ IsNoHostName cut.0 why
+SaysNoFileBy None last why = ((why ≡ BadName) × (last ≡ codes ".")) ⊎ IsNoHostName last why
+SaysNoFileBy (Some cut) last why = ((why ≡ Path (Bad Version)) × ((n : ℕ) → IsVersionText cut.1 n → ⊥)) ⊎ IsNoHostName cut.0 why
 
 abbrev pub SaysNoFile : List ℕ → Why → Type 0
 SaysNoFile last why = SaysNoFileBy (cut_of 59 last) last why

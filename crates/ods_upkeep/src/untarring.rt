@@ -1,9 +1,10 @@
 //! `untar`: puts the files of an archive one by one.
 ghost use Rattle.std.specs.Prelude.{◌≡◌, ℕ, length, None, IfErr, MatchOption, MatchResult, OnOk};
 ghost use Rattle.ods_text.specs.Cuts.{cut_of};
+ghost use Rattle.ods_text.specs.One.{IsTheOne};
 ghost use Rattle.ods_upkeep.specs.HostPut.{IsVersionFor};
 ghost use Rattle.ods_upkeep.specs.Refused.{HasPath};
-ghost use Rattle.ods_upkeep.specs.Untarred.{IsFiled, IsNotFiled, IsNotUnpacked, IsNotUntarred, IsUnpacked, IsUntarred, SaysFile, SaysNoFile, unless_zero as unless_none, zeros_or};
+ghost use Rattle.ods_upkeep.specs.Untarred.{IsFiled, IsNotFiled, IsNotUnpacked, IsNotUntarred, IsUnpacked, IsUntarred, IsVersionText, SaysFile, SaysNoFile, unless_zero as unless_none, zeros_or};
 ghost use Rattle.ods_upkeep.specs.Written.{bytes_of};
 
 use crate::asking::put_new;
@@ -16,8 +17,9 @@ use crate::written::{Written, write_host};
 use crate::{Placing, PutForm};
 use ods_base::{FileId, Name, Uic};
 use ods_filing::{Filing, NewFile};
-use ods_paths::has_wildcard;
+use ods_paths::{BadPath, has_wildcard};
 use ods_request::Stamp;
+use ods_shell::PathFault;
 use ods_text::read_small;
 use std::alloc::Global;
 
@@ -83,14 +85,28 @@ fn file_said(alloc: Global, last: &str) -> Result<(Name, Option<u16>), Why>
     ensures { MatchResult result (λ r. SaysFile last.now r.0 r.1) (SaysNoFile last.now) }
 {
     let Some((front, digits)) = cut_version(last) else {
+        if last == "." {
+            return Err(Why::BadName);
+        }
         let name = name_for(alloc, None, last)?;
         return Ok((name, None));
     };
-    let Some(version) = read_small(digits.as_bytes()) else {
-        return Err(Why::BadName);
+    let Some(version) = version_in(digits) else {
+        return Err(Why::Path(PathFault::Bad(BadPath::Version)));
     };
     let name = name_for(alloc, None, front)?;
     Ok((name, unless_zero(version)))
+}
+
+/// The version in decimal digits, at most 32767.
+fn version_in(digits: &str) -> Option<u16>
+    ensures { IsTheOne (IsVersionText digits.now) result }
+{
+    let version = read_small(digits.as_bytes())?;
+    if version > 32767 {
+        return None;
+    }
+    Some(version)
 }
 
 /// What stands before the first `;`, and what stands behind it.
