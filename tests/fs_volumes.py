@@ -8,6 +8,7 @@ from typing import Any
 from fs_image import BLOCK, BLOCKS, INDEX_BLOCKS, MAP_PLACE, ZEROS, Volume, attributes, changed, entries, name, put_sum, sequenced, variable
 
 TASK = bytes(place % 251 for place in range(700))
+LARGE = bytes(place * place % 251 for place in range(5 * BLOCK))
 SPOILT = variable(b"good") + b"\x32\x00short"
 LONG = variable(b"a" * 500) + b"\xff\xff" + b"\x77" * 8 + variable(b"second")
 # Names in the order in which they are listed.
@@ -331,6 +332,13 @@ def unused_volume() -> bytes:
     return volume.bytes()
 
 
+def pieces_volume() -> bytes:
+    """A volume whose free blocks are 275 single ones, and pairs behind them: 525 blocks in the order of their numbers take 400 pointers."""
+    singles = {100 + 2 * run for run in range(275)}
+    pairs = {650 + 3 * run + second for run in range(130) for second in range(2)}
+    return plain_volume(blocks=1040).bytes(used=sorted(set(range(1040)) - singles - pairs))
+
+
 ODD = odd_volume().bytes()
 # What files have, by the names that the rows call it by.
 CONTENTS = {
@@ -341,30 +349,12 @@ CONTENTS = {
     "sub-directory": blocks_of(ODD, 47, 80),
     "low-directory": blocks_of(ODD, 48, 32),
     "long-text": LONG,
-    "long-lines": b"a" * 500 + b"\nsecond\n",
-    "new-blocks": variable(b"new", b"two").ljust(BLOCK, b"\0"),
-    "plain-block": (b"plain" * 100).ljust(BLOCK, b"\0"),
-    "x-block": b"x" * BLOCK,
+    "all-bytes": bytes(range(256)),
+    "one-task": LARGE,
+    "long-file": bytes(place * place % 253 for place in range(525 * BLOCK)),
     "spoilt": SPOILT,
     "task": TASK,
-    "task-blocks": TASK.ljust(2 * BLOCK, b"\0"),
-    "task-and-bytes": TASK + b"\0\xffbytes\r\n",
-    "task-and-line": TASK + b"line\n",
-    "task-twice": TASK + TASK,
-    "no-room": bytes(60000),
-    "two-headers": b"1" * 512 + b"2" * 188,
-    "cr-lf-and-zeros": b"a\r\nb\r\n" + bytes(600),
-    "long-line": b"x" * 32768 + b"\n",
-    "x-bytes": b"x" * 9000,
-    "z-bytes": b"z" * 5000,
-    "thirty-blocks": bytes(30 * BLOCK),
     "few-image": few_volume().bytes(),
-    "marks": b"#" * 1_048_577,
-    "zero-block": bytes(BLOCK),
-    "ten-million": b"x" * 10_000_000,
-    "four-blocks": b"".join(letter * BLOCK for letter in (b"A", b"B", b"C", b"D")),
-    "last-of-four-blocks": bytes(3 * BLOCK) + b"D" * BLOCK,
-    "short-and-long-line": b"short\n" + b"x" * 32768 + b"\n",
 }
 
 
@@ -469,7 +459,6 @@ def full_volume() -> bytes:
 
 CONTIGUOUS = 0o200  # UC.CON of H.UCHA
 DAY = b"29FEB84235959"
-LARGE = bytes(place * place % 251 for place in range(5 * BLOCK))
 
 
 def other_volume(blocks: int = 120) -> Volume:
@@ -538,6 +527,7 @@ NAMED: dict[str, Callable[[], bytes]] = {
     "unused": unused_volume,
     "wide": lambda: plain_volume(blocks=200).bytes(),
     "scattered": lambda: plain_volume(blocks=600).bytes(used=range(100, 600, 2)),  # a large file has many pointers
+    "pieces": pieces_volume,
     "shut-notes": lambda: plain_volume(rights=0xFE80, owner=0o200 << 8 | 0o40).bytes(),
     # What chmod, chown and label make of the plain volume: NOTES.TXT is file 9, and [1,2] file 6.
     "protected": lambda: changed(volume_named("plain"), 2 + 9, 10, b"\x00\xec"),

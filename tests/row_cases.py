@@ -77,7 +77,7 @@ class Judge:
         if row.lines:
             make(row.lines, programs, folder / "disk")
             self.here = {path: data for path, data in files_of(folder).items() if path != "disk"}
-        elif row.image != "none" and (row.image or any("disk" in step.words for step in row.steps)):
+        elif row.image != "none" and (row.image or any("disk" in str(word).split() for step in row.steps for word in step.words)):
             self.disk.write_bytes(volume_named(row.image or "plain"))
 
     def run(self) -> None:
@@ -119,7 +119,8 @@ class Judge:
             stamp = ["--stamp", STAMP] if program == "f11fs" and "disk" in words and {*words} & DATED and "--stamp" not in words else []
             with open(step.into, "wb") if step.into else contextlib.nullcontext(subprocess.PIPE) as output:
                 given = {"stdin": subprocess.DEVNULL} if step.input is None else {"input": step.input}
-                said = subprocess.run([self.programs / program, *stamp, *words], cwd=self.folder, stdout=output, stderr=subprocess.PIPE, timeout=120, **given)
+                env = {**os.environ, "PATH": f"{self.programs}:{os.environ['PATH']}", "STAMP": STAMP}
+                said = subprocess.run([program, *stamp, *words], cwd=self.folder, env=env, stdout=output, stderr=subprocess.PIPE, timeout=120, **given)
             out, err, status = said.stdout or b"", said.stderr, said.returncode
         wrong, above, self.out = [], self.out, out
         if status not in step.statuses:
@@ -177,6 +178,7 @@ class Judge:
         pairs = [("files of the volume", volume.contents(), wanted), ("new directories", sorted({*volume.directories} - were), sorted(step.has)),
                  ("directories that went", sorted(were - {*volume.directories}), sorted(step.lacks))]
         pairs += [(path, {name: getattr(volume.files[volume.paths[path]], name) for name in said}, said) for path, said in step.headers.items()]
+        pairs += [(f"blocks of {path}", volume.raw(volume.files[volume.paths[path]]), data) for path, data in step.blocks.items()]
         if step.frees is not None and old:
             pairs.append(("free blocks", volume.free, old.free + step.frees))
         return [f"{what}: {shown(found)}, not {shown(expected)}" for what, found, expected in pairs if found != expected]

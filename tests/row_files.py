@@ -8,6 +8,7 @@ A file begins with what it is about. Then each line says by its first word what 
     : LINE                   a line of sh that makes disk, with the functions of examples/common.sh; v40, v512 and file are short for some
     $ f11fs IMAGE WORD..     a command, quoted as for a shell; \\xHH is a byte that is no text. f11 is the other program
     $ headers N..            what f11 says of these headers of the file `new`
+    % LINE                   a line of sh -e in the folder, where f11fs and f11 are programs and STAMP is a date; such lines below one another are a script
 
 What stands below a command is of that command; commands with no line between them share it:
 
@@ -37,6 +38,7 @@ and of a command that changes the volume; one that has none of these lines leave
     makes PATH = CONTENT     a file of the volume that is another, or a new one
     removes PATH             a file of the volume that goes
     header PATH NAME=WORD..  what the header of a file says
+    blocks PATH = CONTENT    what the blocks of a file have, with what stands behind its end
     directory PATH           a directory that comes; no directory PATH one that goes
     frees N                  how many blocks become free
     becomes CONTENT          the image has these bytes
@@ -44,6 +46,7 @@ and of a command that changes the volume; one that has none of these lines leave
     bytes LBN PLACE HEX      what the file `new` has at a place of a block
 
 A CONTENT is a text in double quotes with the escapes of Python, or a name of fs_volumes.CONTENTS; image:NAME is a volume, NAME[:N] are the first N bytes.
+CONTENT * N is this N times, and CONTENT + CONTENT one behind the other.
 """
 import ast
 import dataclasses
@@ -59,6 +62,8 @@ ROWS = pathlib.Path(__file__).resolve().parent / "rows"
 MAKING = """here="$TOP/examples"; image=$IMAGE; folder=$PWD; . "$here/common.sh"; top=$PROGRAMS; cd "$folder" || exit 1
 v40() { make_volume "$image"; }; v512() { make_large "$image"; }; file() { header "$image" "$@"; }
 """
+# A part of a CONTENT, and how often it is there.
+PART = re.compile(r'("(?:[^"\\]|\\.)*"|[^\s"]+)(?: \* (\d+))?(?: \+ |$)')
 # What a command prints, or writes to standard error: bytes, or a pattern of the whole.
 Said = bytes | re.Pattern[bytes]
 # Files of a host by their paths; a folder has no bytes.
@@ -99,6 +104,7 @@ class Step:
     sizes: dict[str, int] = dataclasses.field(default_factory=dict)
     changes: bool = False
     makes: Files = dataclasses.field(default_factory=dict)
+    blocks: Files = dataclasses.field(default_factory=dict)
     headers: dict[str, Header] = dataclasses.field(default_factory=dict)
     has: list[str] = dataclasses.field(default_factory=list)
     lacks: list[str] = dataclasses.field(default_factory=list)
@@ -177,6 +183,11 @@ class Reader:
             if program not in ("f11fs", "f11", "headers"):
                 raise ValueError("a command is one of f11fs or f11")
             self.add_step([program, *map(word_of, words)], last)
+        elif word == "%" and last == "%":
+            for step in self.shared:
+                step.words = [*step.words[:-1], f"{step.words[-1]}\n{rest}"]
+        elif word == "%":
+            self.add_step(["sh", "-e", "-c", rest], last)
         elif not self.shared:
             raise ValueError("a command stands below a name")
         else:
@@ -196,6 +207,10 @@ class Reader:
             self.shared.append(row.steps[-1])
 
     def content_of(self, text: str) -> bytes:
+        """Returns the bytes that a sum of texts in quotes and names stands for."""
+        return b"".join(self.part_of(part) * int(count or 1) for part, count in PART.findall(text))
+
+    def part_of(self, text: str) -> bytes:
         """Returns the bytes that a text in quotes or a name stands for."""
         if text.startswith('"'):
             return ast.literal_eval(f"b{text}")
@@ -282,10 +297,11 @@ UPDATED = {
     "leaves": ("leaves", Reader.file_of),
     "size": ("sizes", lambda _, rest: (rest.rpartition(" ")[0], int(rest.rpartition(" ")[2]))),
     "makes": ("makes", Reader.file_of),
+    "blocks": ("blocks", Reader.file_of),
     "removes": ("makes", lambda _, rest: (rest, None)),
 }
 # Lines of what becomes of the volume.
-CHANGES = {"makes", "removes", "header", "directory", "no", "frees", "becomes", "writes"}
+CHANGES = {"makes", "removes", "header", "blocks", "directory", "no", "frees", "becomes", "writes"}
 
 
 def lines_of(text: str) -> list[tuple[int, str, bool]]:
