@@ -134,7 +134,7 @@ def header_of(words: list[str]) -> Header:
     """Returns what a header says, by the names of its words."""
     found: Header = {}
     for name, _, value in (word.partition("=") for word in words):
-        if name == "blocks":
+        if name in ("blocks", "headers"):
             found[name] = [int(lbn) for lbn in value.split(",") if lbn]
             continue
         found[name] = int(value, NUMBERS[name]) if name in NUMBERS else value if name == "name" else bytes.fromhex(value) if name == "attributes" else value.encode()
