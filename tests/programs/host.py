@@ -199,25 +199,7 @@ NO_SYNC = """int fsync(int file) {
 """
 
 
-def run_in(room: Disk, folder: pathlib.Path, *words: str) -> tuple[int, bytes, bytes]:
-    """Runs the program in another folder; returns the status, the output and the errors."""
-    ran = subprocess.run([room.program, *words], cwd=folder, stdin=subprocess.DEVNULL, capture_output=True, timeout=120)
-    return ran.returncode, ran.stdout, ran.stderr
-
-
 class Host(Disk):
-    def test_closed_streams_of_f11(self) -> None:
-        for number, closed in enumerate(("<&-", ">&-", "2>&-", "<&- >&- 2>&-")):
-            for words in (("disk",), ("disk", "script", "--out", "new"), ("disk", "none", "--out", "new")):
-                folder = self.folder / f"f11.{number}.{len(words)}.{words[-2:][0]}.{words[1:2] or 0}".replace("/", "")
-                folder.mkdir()
-                (folder / "disk").write_bytes(self.before)
-                (folder / "script").write_bytes(b"USER [1,1]\nLIST 4,4\nSTAT 9,9\n")
-                status = run_closed(self.f11, folder, closed, words)
-                self.assertEqual((folder / "disk").read_bytes(), self.before, f"the image after {words} {closed}")
-                assert status in (0, 1, 2, 3), f"{words} {closed}: status {status}"
-                if (folder / "new").exists():
-                    self.assertEqual(len((folder / "new").read_bytes()) % 512, 0, "bytes of the new image behind its blocks")
 
     def test_locked_image_is_open_for_reading_alone(self) -> None:
         run, flags = waiting(self)
@@ -332,35 +314,6 @@ class Host(Disk):
         assert self.is_untouched(), "the image was touched"
         self.assertEqual(self.names(), ["disk", "made", "new"], "files of the host")
 
-    def test_reasons_of_writing(self) -> None:
-        self.assertEqual(self.f11fs(*MKDIR, preexec_fn=limited(8192, True)), (3, b"", b"f11fs: disk: writing failed: it is too large\n"), "a change")
-        self.assertEqual(self.f11fs("-o", "new", *MKDIR, preexec_fn=limited(8192, True)), (3, b"", b"f11fs: new: writing failed: it is too large\n"),
-                "a change elsewhere")
-        assert self.is_untouched(), "the image was touched"
-        self.assertEqual(self.names(), ["disk"], "files of the host")
-
-    def test_new_image_has_the_mode_of_the_old(self) -> None:
-        for mode in (0o600, 0o640, 0o444, 0o666):
-            self.image.chmod(mode)
-            self.assertEqual(self.f11fs("-o", f"new{mode:o}", *MKDIR), (0, b"", b""), "a change elsewhere")
-            self.assertEqual((self.folder / f"new{mode:o}").stat().st_mode & 0o7777, mode, "the mode")
-        self.assertEqual(self.f11fs("--stamp", STAMP, "made", "init", "80", umask=0o027), (0, b"", b""), "a new volume")
-        self.assertEqual((self.folder / "made").stat().st_mode & 0o777, 0o640, "the mode of a new volume")
-
-    def test_sparse_image_stays_sparse(self) -> None:
-        made = self.folder / "made"
-        self.assertEqual(self.f11fs("--stamp", STAMP, "made", "init", "20000"), (0, b"", b""), "a new volume")
-        assert made.stat().st_blocks < 2000, "the zeros of a new volume are on the disk"
-        self.assertEqual(self.f11fs("--stamp", STAMP, "made", "mkdir", "NEW"), (0, b"", b""), "a change")
-        assert made.stat().st_blocks < 2000, "the zeros of a sparse image are on the disk"
-        self.assertEqual(self.f11fs("-o", "copy", "--stamp", STAMP, "made", "mkdir", "MORE"), (0, b"", b""), "a change elsewhere")
-        assert (self.folder / "copy").stat().st_blocks < 2000, "the zeros of a copy are on the disk"
-        self.assertEqual((self.folder / "copy").stat().st_size, 20000 * 512, "the size of the copy")
-        made.write_bytes(made.read_bytes())
-        self.assertEqual(self.f11fs("--stamp", STAMP, "made", "mkdir", "MORE"), (0, b"", b""), "a change of a full image")
-        assert made.stat().st_blocks >= 20000, "a full image has holes"
-        self.assertEqual(self.f11fs("made", "check"), (0, b"sound\n", b""), "the volume")
-
     def test_hidden_file_that_another_program_writes(self) -> None:
         hidden = self.folder / ".new.f11fs-new"
         hidden.write_bytes(b"a part")
@@ -371,58 +324,6 @@ class Host(Disk):
         self.assertEqual((hidden.read_bytes(), self.names()), (b"a part", [".new.f11fs-new", "disk"]), "files of the host")
         self.assertEqual(self.f11fs("-o", "new", *MKDIR), (0, b"", b""), "a change elsewhere")
         self.assertEqual(self.names(), ["disk", "new"], "files of the host")
-
-    def test_links_are_not_written_through(self) -> None:
-        (self.folder / "new").symlink_to("none")
-        self.assertEqual(self.f11fs("-o", "new", *MKDIR), (3, b"", b"f11fs: new: it already exists\n"), "a link that leads to nothing")
-        (self.folder / ".other.f11fs-new").symlink_to("disk")
-        self.assertEqual(self.f11fs("-o", "other", *MKDIR), (3, b"", b"f11fs: other: no new file can be made: it is not a regular file\n"),
-                "a link under the hidden name")
-        assert self.is_untouched(), "the image was touched"
-        self.assertEqual(self.names(), [".other.f11fs-new", "disk", "new"], "files of the host")
-
-    def test_names_that_an_ended_run_left(self) -> None:
-        for word in ("old", "new"):
-            os.link(self.image, self.folder / f".disk.f11fs-{word}")
-        self.assertEqual(self.f11fs("--backup", *MKDIR), (0, b"", b""), "a change")
-        self.assertEqual(self.names(), ["disk", "disk~"], "files of the host")
-        self.assertEqual((self.folder / "disk~").read_bytes(), self.before, "the backup")
-        os.link(self.image, self.folder / "other")
-        os.link(self.image, self.folder / ".disk.f11fs-old")
-        status, _, err = self.f11fs("--stamp", STAMP, "disk", "mkdir", "MORE")
-        self.assertEqual((status, err), (3, b"f11fs: disk: it has several names (hard links); --break-links changes only this one\n"), "another name")
-
-    def test_folder_whose_name_is_no_text(self) -> None:
-        folder = os.path.join(os.fsencode(self.folder), b"caf\xe9")
-        os.mkdir(folder)
-        os.rename(self.image, os.path.join(folder, b"disk"))
-        self.assertEqual(run_in(self, folder, "--backup", *MKDIR), (0, b"", b""), "a change")
-        self.assertEqual(sorted(os.listdir(folder)), [b"disk", b"disk~"], "files of the host")
-        self.assertEqual(run_in(self, folder, "-o", "new", "--stamp", STAMP, "disk", "mkdir", "MORE"), (0, b"", b""), "a change elsewhere")
-        self.assertEqual(sorted(os.listdir(folder)), [b"disk", b"disk~", b"new"], "files of the host")
-
-    def test_names_that_leave_no_room(self) -> None:
-        for name in ("d" * 243, "d" * 254, "é" * 127, "x" + "é" * 126):
-            folder = self.folder / name[:3]
-            folder.mkdir(exist_ok=True)
-            (folder / name).write_bytes(self.before)
-            self.assertEqual(run_in(self, folder, "--stamp", STAMP, name, "mkdir", "NEW"), (0, b"", b""), "a change")
-            self.assertEqual([path.name for path in folder.iterdir()], [name], "files of the host")
-            (folder / name).unlink()
-            self.assertEqual(self.f11fs("--stamp", STAMP, "-o", folder / name, "disk", "mkdir", "NEW"), (0, b"", b""), "a change elsewhere")
-            self.assertEqual([path.name for path in folder.iterdir()], [name], "files of the host")
-            (folder / name).unlink()
-
-    def test_links_in_a_chain_and_in_a_ring(self) -> None:
-        (self.folder / "inner").mkdir()
-        (self.folder / "inner" / "second").symlink_to("../disk")
-        (self.folder / "first").symlink_to("inner/second")
-        self.assertEqual(self.f11fs("--stamp", STAMP, "first", "mkdir", "NEW"), (0, b"", b""), "a change")
-        assert (self.folder / "first").is_symlink() and not self.image.is_symlink(), "a link was replaced"
-        assert "[NEW]" in self.volume().directories, "the change is not there"
-        (self.folder / "ring").symlink_to("gnir")
-        (self.folder / "gnir").symlink_to("ring")
-        self.assertEqual(self.f11fs("ring", "mkdir", "NEW"), (3, b"", b"f11fs: ring: reading failed: its symbolic links form a loop\n"), "a ring")
 
     def test_block_device(self) -> None:
         if os.geteuid() != 0:
