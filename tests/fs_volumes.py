@@ -528,6 +528,7 @@ NAMED: dict[str, Callable[[], bytes]] = {
     "wide": lambda: plain_volume(blocks=200).bytes(),
     "scattered": lambda: plain_volume(blocks=600).bytes(used=range(100, 600, 2)),  # a large file has many pointers
     "pieces": pieces_volume,
+    "old": lambda: old_volume().bytes(),
     "shut-notes": lambda: plain_volume(rights=0xFE80, owner=0o200 << 8 | 0o40).bytes(),
     # What chmod, chown and label make of the plain volume: NOTES.TXT is file 9, and [1,2] file 6.
     "protected": lambda: changed(volume_named("plain"), 2 + 9, 10, b"\x00\xec"),

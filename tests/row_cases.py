@@ -14,7 +14,7 @@ from fs_image import changed
 from fs_reader import Reader
 from fs_room import OLD, STAMP, files_of
 from fs_volumes import CONTENTS, volume_named
-from row_files import Files, Member, Row, Said, Step, make, rows_of
+from row_files import ROWS, Files, Member, Row, Said, Step, make, rows_of
 
 # Commands whose files get dates, which have to be known.
 DATED = {"put", "cp", "mkdir", "repair", "untar", "init"}
@@ -119,7 +119,7 @@ class Judge:
             stamp = ["--stamp", STAMP] if program == "f11fs" and "disk" in words and {*words} & DATED and "--stamp" not in words else []
             with open(step.into, "wb") if step.into else contextlib.nullcontext(subprocess.PIPE) as output:
                 given = {"stdin": subprocess.DEVNULL} if step.input is None else {"input": step.input}
-                env = {**os.environ, "PATH": f"{self.programs}:{os.environ['PATH']}", "STAMP": STAMP}
+                env = {**os.environ, "PATH": f"{self.programs}:{os.environ['PATH']}", "STAMP": STAMP, "TOP": str(ROWS.parent.parent)}
                 said = subprocess.run([program, *stamp, *words], cwd=self.folder, env=env, stdout=output, stderr=subprocess.PIPE, timeout=120, **given)
             out, err, status = said.stdout or b"", said.stderr, said.returncode
         wrong, above, self.out = [], self.out, out

@@ -8,7 +8,7 @@ A file begins with what it is about. Then each line says by its first word what 
     : LINE                   a line of sh that makes disk, with the functions of examples/common.sh; v40, v512 and file are short for some
     $ f11fs IMAGE WORD..     a command, quoted as for a shell; \\xHH is a byte that is no text. f11 is the other program
     $ headers N..            what f11 says of these headers of the file `new`
-    % LINE                   a line of sh -e in the folder, where f11fs and f11 are programs and STAMP is a date; such lines below one another are a script
+    % LINE                   a line of sh -e in the folder, with the programs f11fs and f11, and a date in STAMP; such lines below one another are a script
 
 What stands below a command is of that command; commands with no line between them share it:
 

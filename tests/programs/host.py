@@ -11,7 +11,7 @@ import sys
 import tempfile
 import time
 
-from fs_room import NOBODY, OLD, STAMP, Disk, for_each, limited
+from fs_room import NOBODY, STAMP, Disk, files_of, for_each, limited
 
 FILE, OTHER = "[1,2]NOTES.TXT", "[1,2]OTHER.TXT"
 
@@ -33,11 +33,6 @@ COMMANDS = [
     ("--stamp", STAMP, "disk", "untar", "-"), ("--stamp", STAMP, "disk", "cp", "--from", "linked", FILE, "[0,0]"), ("--stamp", STAMP, "disk", "repair", "all"),
     ("--stamp", STAMP, "-o", "new", "disk", "mkdir", "NEW"), ("--stamp", STAMP, "made", "init", "80"), ("--stamp", STAMP, "linked", "mkdir", "NEW"),
 ]
-
-
-def state_of(folder: pathlib.Path) -> dict[str, bytes | None]:
-    """Each path of a folder, with its bytes."""
-    return {str(path.relative_to(folder)): path.read_bytes() if path.is_file() else None for path in sorted(folder.rglob("*"))}
 
 
 def laid(room: Disk, name: str) -> pathlib.Path:
@@ -65,15 +60,15 @@ def with_closed(room: Disk, closed: str) -> None:
         open_folder, folder = laid(room, f"open{number}"), laid(room, f"closed{number}")
         ample = run_closed(room.program, open_folder, "", words)
         status = run_closed(room.program, folder, closed, words)
-        before, after = state_of(laid(room, f"before{number}")), state_of(folder)
+        before, after = files_of(laid(room, f"before{number}")), files_of(folder)
         if "-" in words and "<&-" in closed:
             # Standard input that is closed is no file that is empty.
             room.assertEqual((status, after == before), (3, True), f"{words} {closed}: status, and whether the files of the host are as before")
         elif "rescue" in words and status == 3:
             # It ends where its first line cannot be written.
-            assert before.items() <= after.items() <= state_of(open_folder).items(), f"{words} {closed}: files of the host"
+            assert before.items() <= after.items() <= files_of(open_folder).items(), f"{words} {closed}: files of the host"
         else:
-            assert after == state_of(open_folder), f"{words} {closed}: status {status}, files of the host"
+            assert after == files_of(open_folder), f"{words} {closed}: status {status}, files of the host"
         room.assertIn(status, (ample, 3), f"{words} {closed}")
 
 
@@ -155,6 +150,12 @@ call(None, 4096, 1, 1, held, 0)
 os.close(held)
 """
 
+# A process with a name that is no text.
+NAMED = """import os
+open('/proc/self/comm', 'wb').write(b'a\\x1b[7mb\\n')
+held = open('disk', 'r+b')
+"""
+
 # A thread that has a table of descriptors of its own, with the image in it.
 THREADED = """import ctypes, os, threading
 opened = threading.Event()
@@ -168,15 +169,15 @@ opened.wait()
 """
 
 
-def held_by(room: Disk, words: str) -> None:
-    """A change of an image that a Python program has open without a descriptor of its own."""
+def held_by(room: Disk, words: str, name: str = r".+") -> None:
+    """A change of an image that a Python program of this name has open."""
     with subprocess.Popen([sys.executable, "-c", f"{words}print('open', flush=True)\ninput()\nos._exit(0)"], cwd=room.folder, stdin=subprocess.PIPE,
             stdout=subprocess.PIPE) as held:
         held.stdout.readline()
         status, out, err = room.f11fs(*MKDIR)
         held.communicate(b"\n")
     room.assertEqual((status, out), (3, b""), "a change of an image that is open")
-    room.fits(err, busy(held.pid), "the line")
+    room.fits(err, busy(held.pid, name), "the line")
     assert room.is_untouched(), "the image was touched"
     room.assertEqual(room.f11fs(*MKDIR), (0, b"", b""), "a change of an image that was open")
 
@@ -229,13 +230,7 @@ class Host(Disk):
         self.assertEqual(ended(run), (0, b"", b""), "a change")
 
     def test_name_of_the_process_is_shown(self) -> None:
-        words = "open('/proc/self/comm', 'wb').write(b'a\\x1b[7mb\\n'); held = open('disk', 'r+b'); print('open', flush=True); input()"
-        with subprocess.Popen([sys.executable, "-c", words], cwd=self.folder, stdin=subprocess.PIPE, stdout=subprocess.PIPE) as held:
-            held.stdout.readline()
-            status, _, err = self.f11fs(*MKDIR)
-            held.communicate(b"\n")
-        self.assertEqual(status, 3, "a change of an image that is open")
-        self.fits(err, busy(held.pid, r"a\\x1b\[7mb"), "the line")
+        held_by(self, NAMED, r"a\\x1b\[7mb")
 
     def test_image_that_another_process_maps(self) -> None:
         held_by(self, MAPPED)
@@ -340,20 +335,7 @@ class Host(Disk):
         finally:
             subprocess.run(["losetup", "--detach", device], check=False)
 
-    def test_right_to_write_is_asked(self) -> None:
-        if os.geteuid() != 0:
-            return
-        self.image.chmod(0o444)
-        os.chown(self.image, NOBODY, NOBODY)
-        os.chown(self.folder, NOBODY, NOBODY)
-        how = {"user": NOBODY, "group": NOBODY, "extra_groups": []}
-        self.assertEqual(self.f11fs(*MKDIR, **how), (3, b"", b"f11fs: disk: no permission to write to it\n"), "a change")
-        self.assertEqual(self.f11fs("-o", "new", *MKDIR, **how), (0, b"", b""), "a change elsewhere")
-        self.image.chmod(0o644)
-        self.folder.chmod(0o555)
-        self.assertEqual(self.f11fs(*MKDIR, **how), (3, b"", b"f11fs: disk: no new file can be made: no permission\n"),
-                "a change in a folder that is closed")
-        self.assertEqual(self.image.stat().st_mtime, OLD, "when the image was written")
+
 
 
 for_each(Host, "closed_streams", ("<&-", ">&-", "2>&-", "<&- >&- 2>&-"), with_closed)
