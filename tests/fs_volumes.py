@@ -515,6 +515,36 @@ def holes_volume() -> Volume:
     return volume
 
 
+def many_volume() -> bytes:
+    """A volume with files of many forms, owners and protections, in three directories."""
+    volume = Volume(120)
+    volume.directory(4, "000000.DIR;1", *entries(f"000000.DIR;1 4,4 001002.DIR;1 6,1 A.DIR;1 7,1 {RESERVED} TOP.;1 8,1"))
+    volume.directory(6, "001002.DIR;1", *entries("NOTES.TXT;1 9,1 NOTES.TXT;4 10,1 NUMBERS.TXT;2 11,1 ZEROS.DAT;1 12,1"))
+    volume.directory(7, "A.DIR;1", *entries("ONE.TSK;32767 13,1 EMPTY.DAT;1 14,1 BYTES.OBJ;1 15,1 A$B.PAS;3 16,1"))
+    volume.file(8, "TOP.;1", variable(b"", b"x", b"odd"), control=1, size=3, owner=0o1003)
+    volume.file(9, "NOTES.TXT;1", variable(b"first", b"second"), control=2, size=6, owner=0o200 << 8 | 0o40, rights=0xFE80)
+    volume.file(10, "NOTES.TXT;4", variable(b"even", b"odd", pad=False), control=2, size=4)
+    volume.file(11, "NUMBERS.TXT;2", sequenced((10, b"ten"), (20, b"twenty!")), kind=3, control=2, size=9, rights=0o123456)
+    volume.file(12, "ZEROS.DAT;1", b"z" * BLOCK, attr=bytes(32))
+    volume.file(13, "ONE.TSK;32767", LARGE, kind=1, size=512, flags=CONTIGUOUS)
+    volume.file(14, "EMPTY.DAT;1", kind=1, size=512)
+    volume.file(15, "BYTES.OBJ;1", variable(b"\1\0\3\xff", b"\2\0"), size=4)
+    volume.file(16, "A$B.PAS;3", variable(b"begin", b"end."), control=2, size=5)
+    return volume.bytes()
+
+
+def spaced_volume() -> bytes:
+    """The plain volume with a name that has a space in it, as RSX cannot type it; f11fs shows it as _."""
+    volume = plain_volume()
+    volume.directory(13, "SUB.DIR;1", ("A_B.PAS;3", 14, 1))
+    volume.file(14, "A_B.PAS;3", variable(b"begin", b"end."), control=2, size=5)
+    image = volume.bytes()
+    at = BLOCK * 45 + 16 * 7  # behind the entries of the master directory
+    entry = (13).to_bytes(2, "little") + b"\1\0\0\0" + b"".join(word.to_bytes(2, "little") for word in name("SUB.DIR;1"))
+    image = image[:at] + entry + image[at + 16 :]
+    return changed(image, 2 + 4, 26, (16 * 8).to_bytes(2, "little"))
+
+
 # Volumes by the names that rows call them by, besides those that are made together.
 NAMED: dict[str, Callable[[], bytes]] = {
     "records": record_volume,
@@ -528,6 +558,8 @@ NAMED: dict[str, Callable[[], bytes]] = {
     "wide": lambda: plain_volume(blocks=200).bytes(),
     "scattered": lambda: plain_volume(blocks=600).bytes(used=range(100, 600, 2)),  # a large file has many pointers
     "pieces": pieces_volume,
+    "many": many_volume,
+    "spaced": spaced_volume,
     "old": lambda: old_volume().bytes(),
     "shut-notes": lambda: plain_volume(rights=0xFE80, owner=0o200 << 8 | 0o40).bytes(),
     # What chmod, chown and label make of the plain volume: NOTES.TXT is file 9, and [1,2] file 6.

@@ -16,6 +16,7 @@ from fs_room import OLD, STAMP, files_of
 from fs_volumes import CONTENTS, volume_named
 from row_files import ROWS, Files, Member, Row, Said, Step, make, rows_of
 
+FORMS = {"ustar": tarfile.USTAR_FORMAT, "gnu": tarfile.GNU_FORMAT, "pax": tarfile.PAX_FORMAT}
 # Commands whose files get dates, which have to be known.
 DATED = {"put", "cp", "mkdir", "repair", "untar", "init"}
 
@@ -29,6 +30,17 @@ def fits(said: bytes, expected: list[Said], any_order: bool) -> bool:
 def shown(data: object) -> str:
     """What was said or expected, in a line."""
     return f"{data!r:.600}"
+
+
+def packed(form: str, members: list[Member]) -> bytes:
+    """An archive of these members."""
+    stream = io.BytesIO()
+    with tarfile.open(fileobj=stream, mode="w", format=FORMS[form]) as archive:
+        for member in members:
+            info = tarfile.TarInfo(member.path)
+            info.size, info.mtime, info.pax_headers, (info.type, info.linkname) = len(member.data), 500_000_000, member.records, member.kind
+            archive.addfile(info, io.BytesIO(member.data))
+    return stream.getvalue()
 
 
 def differs(said: bytes, members: list[Member]) -> list[str]:
@@ -92,7 +104,8 @@ class Judge:
 
     def lay(self, step: Step) -> None:
         """Makes the files of the host that are there before the command."""
-        for name, data in {**step.before, **{f"script.{number}": text.encode() for number, text in enumerate(step.scripts, 1)}}.items():
+        before = {**step.before, **{path: packed(*archive) for path, archive in step.packs.items()}}
+        for name, data in {**before, **{f"script.{number}": text.encode() for number, text in enumerate(step.scripts, 1)}}.items():
             place = self.folder / name
             (place if data is None else place.parent).mkdir(parents=True, exist_ok=True)
             if data is not None:

@@ -21,9 +21,11 @@ What stands below a command is of that command; commands with no line between th
     as above                 it prints what the command above printed
     any order                its lines are printed in any order
     archive                  it prints an archive of tar, with just these members in this order, by Python's tarfile:
+    packs PATH FORM          an archive of the host that is there before, by tarfile, with the members that follow; FORM is ustar, gnu or pax
     member PATH = CONTENT    a member, with these bytes
     record KEYWORD=VALUE     a record of the member above; those that stand here are all that it has
     time STAMP               the local time of the member above
+    type HEX WORD            the type of the member above, and the target of a link
     into FILE                what it prints goes into this file
     input CONTENT            what it reads from standard input
     < TEXT                   a line of the file script.1, which is there before; <* N TEXT stands for N lines
@@ -76,12 +78,13 @@ NUMBERS = {"number": 10, "kind": 10, "control": 10, "size": 10, "highest": 10, "
 
 @dataclasses.dataclass
 class Member:
-    """A member of an archive: its path, its bytes, its records, and its local time where that is said."""
+    """A member of an archive: its path, its bytes, its records, its local time where that is said, and its type with the target of a link."""
 
     path: str
     data: bytes
     records: dict[str, str] = dataclasses.field(default_factory=dict)
     stamp: str | None = None
+    kind: tuple[bytes, str] = (b"0", "")
 
 
 @dataclasses.dataclass
@@ -95,6 +98,8 @@ class Step:
     any_order: bool = False
     as_above: bool = False
     archive: list[Member] | None = None
+    packs: dict[str, tuple[str, list[Member]]] = dataclasses.field(default_factory=dict)
+    members: list[Member] = dataclasses.field(default_factory=list)
     into: str | None = None
     input: bytes | None = None
     scripts: list[str] = dataclasses.field(default_factory=list)
@@ -242,10 +247,19 @@ class Reader:
             step.scripts[-1] += f"{rest}\n"
         elif (word, rest) in (("any", "order"), ("as", "above")):
             setattr(step, f"{word}_{rest}", True)
+        elif word == "archive":
+            step.archive = step.members = []
+        elif word == "packs":
+            path, form = rest.split(" ")
+            step.packs[path] = form, (members := [])
+            step.members = members
         elif word == "record":
-            step.archive[-1].records.update([rest.split("=", 1)])
+            step.members[-1].records.update([rest.split("=", 1)])
         elif word == "time":
-            step.archive[-1].stamp = rest
+            step.members[-1].stamp = rest
+        elif word == "type":
+            kind, _, target = rest.partition(" ")
+            step.members[-1].kind = bytes.fromhex(kind), target
         elif word == "header":
             path, *words = rest.split(" ")
             step.headers.setdefault(path, {}).update(header_of(words))
@@ -276,7 +290,6 @@ class Reader:
 # Lines that set a part of a command, that add to a list, and that add to a dictionary: the part, and what is read of the rest of the line.
 SET = {
     "status": ("statuses", lambda _, rest: [int(status) for status in rest.split()]),
-    "archive": ("archive", lambda _, rest: []),
     "into": ("into", lambda _, rest: rest),
     "input": ("input", Reader.content_of),
     "frees": ("frees", lambda _, rest: int(rest)),
@@ -285,7 +298,7 @@ SET = {
 }
 APPENDED = {
     "or": ("outs", lambda _, rest: b""),
-    "member": ("archive", lambda reader, rest: Member(*reader.file_of(rest))),
+    "member": ("members", lambda reader, rest: Member(*reader.file_of(rest))),
     "script": ("scripts", lambda _, rest: ""),
     "bytes": ("places", lambda _, rest: spot_of(*rest.split())),
     "spoil": ("spoils", lambda _, rest: spot_of(*rest.split())),
