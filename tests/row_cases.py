@@ -133,7 +133,8 @@ class Judge:
             with open(step.into, "wb") if step.into else contextlib.nullcontext(subprocess.PIPE) as output:
                 given = {"stdin": subprocess.DEVNULL} if step.input is None else {"input": step.input}
                 env = {**os.environ, "PATH": f"{self.programs}:{os.environ['PATH']}", "STAMP": STAMP, "TOP": str(ROWS.parent.parent)}
-                said = subprocess.run([program, *stamp, *words], cwd=self.folder, env=env, stdout=output, stderr=subprocess.PIPE, timeout=120, **given)
+                command = [program if program == "sh" else self.programs / program, *stamp, *words]
+                said = subprocess.run(command, cwd=self.folder, env=env, stdout=output, stderr=subprocess.PIPE, timeout=120, **given)
             out, err, status = said.stdout or b"", said.stderr, said.returncode
         wrong, above, self.out = [], self.out, out
         if status not in step.statuses:
