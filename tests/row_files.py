@@ -3,7 +3,8 @@
 A file begins with what it is about. Then each line says by its first word what it is; a blank line ends a row, and a line that begins with # says nothing:
 
     == NAME                  a row, and its name; rows with no blank line between them share what stands below their first commands
-    each VALUE..             the row is there for each value, which stands in for {} in its lines, its first word for {0}, and its parts between bars for {1}, {2} ..
+    each VALUE..             the row is there for each value of such lines: in its lines {} is the value, {0} its first word, and {1}, {2} .. its parts
+                             between bars
     image NAME               the volume that is called disk is this one of fs_volumes.py; without this line it is the plain one; none for no image
     : LINE                   a line of sh that makes disk, with the functions of examples/common.sh; v40, v512 and file are short for some
     $ f11fs IMAGE WORD..     a command, quoted as for a shell; \\xHH is a byte that is no text. f11 is the other program
@@ -326,7 +327,7 @@ def lines_of(text: str) -> list[tuple[int, str, bool]]:
         if line:
             group.append((number, line))
             continue
-        for value in next((shlex.split(line[5:]) for _, line in group if line.startswith("each ")), [None]):
+        for value in [value for _, line in group if line.startswith("each ") for value in shlex.split(line[5:])] or [None]:
             kept = [(at, line) for at, line in group if not line.startswith(("#", "each "))]
             found += [(at, line if value is None else filled(line, value), place == 0) for place, (at, line) in enumerate(kept)]
         group = []
