@@ -214,7 +214,10 @@ class Reader:
 
     def content_of(self, text: str) -> bytes:
         """Returns the bytes that a sum of texts in quotes and names stands for."""
-        return b"".join(self.part_of(part) * int(count or 1) for part, count in PART.findall(text))
+        parts = list(PART.finditer(text))
+        if "".join(part[0] for part in parts) != text:
+            raise ValueError("a content is a sum of texts in quotes and names")
+        return b"".join(self.part_of(part[1]) * int(part[2] or 1) for part in parts)
 
     def part_of(self, text: str) -> bytes:
         """Returns the bytes that a text in quotes or a name stands for."""
