@@ -8,6 +8,7 @@ from typing import Any
 from fs_image import BLOCK, BLOCKS, INDEX_BLOCKS, MAP_PLACE, ZEROS, Volume, attributes, changed, entries, name, put_sum, sequenced, variable
 
 TASK = bytes(place % 251 for place in range(700))
+LARGE = bytes(place * place % 251 for place in range(5 * BLOCK))
 SPOILT = variable(b"good") + b"\x32\x00short"
 LONG = variable(b"a" * 500) + b"\xff\xff" + b"\x77" * 8 + variable(b"second")
 # Names in the order in which they are listed.
@@ -331,6 +332,13 @@ def unused_volume() -> bytes:
     return volume.bytes()
 
 
+def pieces_volume() -> bytes:
+    """A volume whose free blocks are 275 single ones, and pairs behind them: 525 blocks in the order of their numbers take 400 pointers."""
+    singles = {100 + 2 * run for run in range(275)}
+    pairs = {650 + 3 * run + second for run in range(130) for second in range(2)}
+    return plain_volume(blocks=1040).bytes(used=sorted(set(range(1040)) - singles - pairs))
+
+
 ODD = odd_volume().bytes()
 # What files have, by the names that the rows call it by.
 CONTENTS = {
@@ -341,30 +349,12 @@ CONTENTS = {
     "sub-directory": blocks_of(ODD, 47, 80),
     "low-directory": blocks_of(ODD, 48, 32),
     "long-text": LONG,
-    "long-lines": b"a" * 500 + b"\nsecond\n",
-    "new-blocks": variable(b"new", b"two").ljust(BLOCK, b"\0"),
-    "plain-block": (b"plain" * 100).ljust(BLOCK, b"\0"),
-    "x-block": b"x" * BLOCK,
+    "all-bytes": bytes(range(256)),
+    "one-task": LARGE,
+    "long-file": bytes(place * place % 253 for place in range(525 * BLOCK)),
     "spoilt": SPOILT,
     "task": TASK,
-    "task-blocks": TASK.ljust(2 * BLOCK, b"\0"),
-    "task-and-bytes": TASK + b"\0\xffbytes\r\n",
-    "task-and-line": TASK + b"line\n",
-    "task-twice": TASK + TASK,
-    "no-room": bytes(60000),
-    "two-headers": b"1" * 512 + b"2" * 188,
-    "cr-lf-and-zeros": b"a\r\nb\r\n" + bytes(600),
-    "long-line": b"x" * 32768 + b"\n",
-    "x-bytes": b"x" * 9000,
-    "z-bytes": b"z" * 5000,
-    "thirty-blocks": bytes(30 * BLOCK),
     "few-image": few_volume().bytes(),
-    "marks": b"#" * 1_048_577,
-    "zero-block": bytes(BLOCK),
-    "ten-million": b"x" * 10_000_000,
-    "four-blocks": b"".join(letter * BLOCK for letter in (b"A", b"B", b"C", b"D")),
-    "last-of-four-blocks": bytes(3 * BLOCK) + b"D" * BLOCK,
-    "short-and-long-line": b"short\n" + b"x" * 32768 + b"\n",
 }
 
 
@@ -469,7 +459,6 @@ def full_volume() -> bytes:
 
 CONTIGUOUS = 0o200  # UC.CON of H.UCHA
 DAY = b"29FEB84235959"
-LARGE = bytes(place * place % 251 for place in range(5 * BLOCK))
 
 
 def other_volume(blocks: int = 120) -> Volume:
@@ -526,6 +515,36 @@ def holes_volume() -> Volume:
     return volume
 
 
+def many_volume() -> bytes:
+    """A volume with files of many forms, owners and protections, in three directories."""
+    volume = Volume(120)
+    volume.directory(4, "000000.DIR;1", *entries(f"000000.DIR;1 4,4 001002.DIR;1 6,1 A.DIR;1 7,1 {RESERVED} TOP.;1 8,1"))
+    volume.directory(6, "001002.DIR;1", *entries("NOTES.TXT;1 9,1 NOTES.TXT;4 10,1 NUMBERS.TXT;2 11,1 ZEROS.DAT;1 12,1"))
+    volume.directory(7, "A.DIR;1", *entries("ONE.TSK;32767 13,1 EMPTY.DAT;1 14,1 BYTES.OBJ;1 15,1 A$B.PAS;3 16,1"))
+    volume.file(8, "TOP.;1", variable(b"", b"x", b"odd"), control=1, size=3, owner=0o1003)
+    volume.file(9, "NOTES.TXT;1", variable(b"first", b"second"), control=2, size=6, owner=0o200 << 8 | 0o40, rights=0xFE80)
+    volume.file(10, "NOTES.TXT;4", variable(b"even", b"odd", pad=False), control=2, size=4)
+    volume.file(11, "NUMBERS.TXT;2", sequenced((10, b"ten"), (20, b"twenty!")), kind=3, control=2, size=9, rights=0o123456)
+    volume.file(12, "ZEROS.DAT;1", b"z" * BLOCK, attr=bytes(32))
+    volume.file(13, "ONE.TSK;32767", LARGE, kind=1, size=512, flags=CONTIGUOUS)
+    volume.file(14, "EMPTY.DAT;1", kind=1, size=512)
+    volume.file(15, "BYTES.OBJ;1", variable(b"\1\0\3\xff", b"\2\0"), size=4)
+    volume.file(16, "A$B.PAS;3", variable(b"begin", b"end."), control=2, size=5)
+    return volume.bytes()
+
+
+def spaced_volume() -> bytes:
+    """The plain volume with a name that has a space in it, as RSX cannot type it; f11fs shows it as _."""
+    volume = plain_volume()
+    volume.directory(13, "SUB.DIR;1", ("A_B.PAS;3", 14, 1))
+    volume.file(14, "A_B.PAS;3", variable(b"begin", b"end."), control=2, size=5)
+    image = volume.bytes()
+    at = BLOCK * 45 + 16 * 7  # behind the entries of the master directory
+    entry = (13).to_bytes(2, "little") + b"\1\0\0\0" + b"".join(word.to_bytes(2, "little") for word in name("SUB.DIR;1"))
+    image = image[:at] + entry + image[at + 16 :]
+    return changed(image, 2 + 4, 26, (16 * 8).to_bytes(2, "little"))
+
+
 # Volumes by the names that rows call them by, besides those that are made together.
 NAMED: dict[str, Callable[[], bytes]] = {
     "records": record_volume,
@@ -538,6 +557,10 @@ NAMED: dict[str, Callable[[], bytes]] = {
     "unused": unused_volume,
     "wide": lambda: plain_volume(blocks=200).bytes(),
     "scattered": lambda: plain_volume(blocks=600).bytes(used=range(100, 600, 2)),  # a large file has many pointers
+    "pieces": pieces_volume,
+    "many": many_volume,
+    "spaced": spaced_volume,
+    "old": lambda: old_volume().bytes(),
     "shut-notes": lambda: plain_volume(rights=0xFE80, owner=0o200 << 8 | 0o40).bytes(),
     # What chmod, chown and label make of the plain volume: NOTES.TXT is file 9, and [1,2] file 6.
     "protected": lambda: changed(volume_named("plain"), 2 + 9, 10, b"\x00\xec"),

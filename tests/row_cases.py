@@ -14,8 +14,9 @@ from fs_image import changed
 from fs_reader import Reader
 from fs_room import OLD, STAMP, files_of
 from fs_volumes import CONTENTS, volume_named
-from row_files import Files, Member, Row, Said, Step, make, rows_of
+from row_files import ROWS, Files, Member, Row, Said, Step, make, rows_of
 
+FORMS = {"ustar": tarfile.USTAR_FORMAT, "gnu": tarfile.GNU_FORMAT, "pax": tarfile.PAX_FORMAT}
 # Commands whose files get dates, which have to be known.
 DATED = {"put", "cp", "mkdir", "repair", "untar", "init"}
 
@@ -29,6 +30,17 @@ def fits(said: bytes, expected: list[Said], any_order: bool) -> bool:
 def shown(data: object) -> str:
     """What was said or expected, in a line."""
     return f"{data!r:.600}"
+
+
+def packed(form: str, members: list[Member]) -> bytes:
+    """An archive of these members."""
+    stream = io.BytesIO()
+    with tarfile.open(fileobj=stream, mode="w", format=FORMS[form]) as archive:
+        for member in members:
+            info = tarfile.TarInfo(member.path)
+            info.size, info.mtime, info.pax_headers, (info.type, info.linkname) = len(member.data), 500_000_000, member.records, member.kind
+            archive.addfile(info, io.BytesIO(member.data))
+    return stream.getvalue()
 
 
 def differs(said: bytes, members: list[Member]) -> list[str]:
@@ -77,7 +89,7 @@ class Judge:
         if row.lines:
             make(row.lines, programs, folder / "disk")
             self.here = {path: data for path, data in files_of(folder).items() if path != "disk"}
-        elif row.image != "none" and (row.image or any("disk" in step.words for step in row.steps)):
+        elif row.image != "none" and (row.image or any("disk" in str(word).split() for step in row.steps for word in step.words)):
             self.disk.write_bytes(volume_named(row.image or "plain"))
 
     def run(self) -> None:
@@ -92,7 +104,8 @@ class Judge:
 
     def lay(self, step: Step) -> None:
         """Makes the files of the host that are there before the command."""
-        for name, data in {**step.before, **{f"script.{number}": text.encode() for number, text in enumerate(step.scripts, 1)}}.items():
+        before = {**step.before, **{path: packed(*archive) for path, archive in step.packs.items()}}
+        for name, data in {**before, **{f"script.{number}": text.encode() for number, text in enumerate(step.scripts, 1)}}.items():
             place = self.folder / name
             (place if data is None else place.parent).mkdir(parents=True, exist_ok=True)
             if data is not None:
@@ -119,7 +132,9 @@ class Judge:
             stamp = ["--stamp", STAMP] if program == "f11fs" and "disk" in words and {*words} & DATED and "--stamp" not in words else []
             with open(step.into, "wb") if step.into else contextlib.nullcontext(subprocess.PIPE) as output:
                 given = {"stdin": subprocess.DEVNULL} if step.input is None else {"input": step.input}
-                said = subprocess.run([self.programs / program, *stamp, *words], cwd=self.folder, stdout=output, stderr=subprocess.PIPE, timeout=120, **given)
+                env = {**os.environ, "PATH": f"{self.programs}:{os.environ['PATH']}", "STAMP": STAMP, "TOP": str(ROWS.parent.parent)}
+                command = [program if program == "sh" else self.programs / program, *stamp, *words]
+                said = subprocess.run(command, cwd=self.folder, env=env, stdout=output, stderr=subprocess.PIPE, timeout=120, **given)
             out, err, status = said.stdout or b"", said.stderr, said.returncode
         wrong, above, self.out = [], self.out, out
         if status not in step.statuses:
@@ -177,6 +192,7 @@ class Judge:
         pairs = [("files of the volume", volume.contents(), wanted), ("new directories", sorted({*volume.directories} - were), sorted(step.has)),
                  ("directories that went", sorted(were - {*volume.directories}), sorted(step.lacks))]
         pairs += [(path, {name: getattr(volume.files[volume.paths[path]], name) for name in said}, said) for path, said in step.headers.items()]
+        pairs += [(f"blocks of {path}", volume.raw(volume.files[volume.paths[path]]), data) for path, data in step.blocks.items()]
         if step.frees is not None and old:
             pairs.append(("free blocks", volume.free, old.free + step.frees))
         return [f"{what}: {shown(found)}, not {shown(expected)}" for what, found, expected in pairs if found != expected]

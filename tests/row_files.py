@@ -3,11 +3,13 @@
 A file begins with what it is about. Then each line says by its first word what it is; a blank line ends a row, and a line that begins with # says nothing:
 
     == NAME                  a row, and its name; rows with no blank line between them share what stands below their first commands
-    each VALUE..             the row is there for each value, which stands in for {} in its lines, its first word for {0}, and its parts between bars for {1}, {2} ..
+    each VALUE..             the row is there for each value of such lines: in its lines {} is the value, {0} its first word, and {1}, {2} .. its parts
+                             between bars
     image NAME               the volume that is called disk is this one of fs_volumes.py; without this line it is the plain one; none for no image
     : LINE                   a line of sh that makes disk, with the functions of examples/common.sh; v40, v512 and file are short for some
     $ f11fs IMAGE WORD..     a command, quoted as for a shell; \\xHH is a byte that is no text. f11 is the other program
     $ headers N..            what f11 says of these headers of the file `new`
+    % LINE                   a line of sh -e in the folder, with the programs f11fs and f11, and a date in STAMP; such lines below one another are a script
 
 What stands below a command is of that command; commands with no line between them share it:
 
@@ -20,9 +22,11 @@ What stands below a command is of that command; commands with no line between th
     as above                 it prints what the command above printed
     any order                its lines are printed in any order
     archive                  it prints an archive of tar, with just these members in this order, by Python's tarfile:
+    packs PATH FORM          an archive of the host that is there before, by tarfile, with the members that follow; FORM is ustar, gnu or pax
     member PATH = CONTENT    a member, with these bytes
     record KEYWORD=VALUE     a record of the member above; those that stand here are all that it has
     time STAMP               the local time of the member above
+    type HEX WORD            the type of the member above, and the target of a link
     into FILE                what it prints goes into this file
     input CONTENT            what it reads from standard input
     < TEXT                   a line of the file script.1, which is there before; <* N TEXT stands for N lines
@@ -37,6 +41,7 @@ and of a command that changes the volume; one that has none of these lines leave
     makes PATH = CONTENT     a file of the volume that is another, or a new one
     removes PATH             a file of the volume that goes
     header PATH NAME=WORD..  what the header of a file says
+    blocks PATH = CONTENT    what the blocks of a file have, with what stands behind its end
     directory PATH           a directory that comes; no directory PATH one that goes
     frees N                  how many blocks become free
     becomes CONTENT          the image has these bytes
@@ -44,6 +49,7 @@ and of a command that changes the volume; one that has none of these lines leave
     bytes LBN PLACE HEX      what the file `new` has at a place of a block
 
 A CONTENT is a text in double quotes with the escapes of Python, or a name of fs_volumes.CONTENTS; image:NAME is a volume, NAME[:N] are the first N bytes.
+CONTENT * N is this N times, and CONTENT + CONTENT one behind the other.
 """
 import ast
 import dataclasses
@@ -59,6 +65,8 @@ ROWS = pathlib.Path(__file__).resolve().parent / "rows"
 MAKING = """here="$TOP/examples"; image=$IMAGE; folder=$PWD; . "$here/common.sh"; top=$PROGRAMS; cd "$folder" || exit 1
 v40() { make_volume "$image"; }; v512() { make_large "$image"; }; file() { header "$image" "$@"; }
 """
+# A part of a CONTENT, and how often it is there.
+PART = re.compile(r'("(?:[^"\\]|\\.)*"|[^\s"]+)(?: \* (\d+))?(?: \+ |$)')
 # What a command prints, or writes to standard error: bytes, or a pattern of the whole.
 Said = bytes | re.Pattern[bytes]
 # Files of a host by their paths; a folder has no bytes.
@@ -71,12 +79,13 @@ NUMBERS = {"number": 10, "kind": 10, "control": 10, "size": 10, "highest": 10, "
 
 @dataclasses.dataclass
 class Member:
-    """A member of an archive: its path, its bytes, its records, and its local time where that is said."""
+    """A member of an archive: its path, its bytes, its records, its local time where that is said, and its type with the target of a link."""
 
     path: str
     data: bytes
     records: dict[str, str] = dataclasses.field(default_factory=dict)
     stamp: str | None = None
+    kind: tuple[bytes, str] = (b"0", "")
 
 
 @dataclasses.dataclass
@@ -90,6 +99,8 @@ class Step:
     any_order: bool = False
     as_above: bool = False
     archive: list[Member] | None = None
+    packs: dict[str, tuple[str, list[Member]]] = dataclasses.field(default_factory=dict)
+    members: list[Member] = dataclasses.field(default_factory=list)
     into: str | None = None
     input: bytes | None = None
     scripts: list[str] = dataclasses.field(default_factory=list)
@@ -99,6 +110,7 @@ class Step:
     sizes: dict[str, int] = dataclasses.field(default_factory=dict)
     changes: bool = False
     makes: Files = dataclasses.field(default_factory=dict)
+    blocks: Files = dataclasses.field(default_factory=dict)
     headers: dict[str, Header] = dataclasses.field(default_factory=dict)
     has: list[str] = dataclasses.field(default_factory=list)
     lacks: list[str] = dataclasses.field(default_factory=list)
@@ -128,7 +140,7 @@ def header_of(words: list[str]) -> Header:
     """Returns what a header says, by the names of its words."""
     found: Header = {}
     for name, _, value in (word.partition("=") for word in words):
-        if name == "blocks":
+        if name in ("blocks", "headers"):
             found[name] = [int(lbn) for lbn in value.split(",") if lbn]
             continue
         found[name] = int(value, NUMBERS[name]) if name in NUMBERS else value if name == "name" else bytes.fromhex(value) if name == "attributes" else value.encode()
@@ -177,6 +189,11 @@ class Reader:
             if program not in ("f11fs", "f11", "headers"):
                 raise ValueError("a command is one of f11fs or f11")
             self.add_step([program, *map(word_of, words)], last)
+        elif word == "%" and last == "%":
+            for step in self.shared:
+                step.words = [*step.words[:-1], f"{step.words[-1]}\n{rest}"]
+        elif word == "%":
+            self.add_step(["sh", "-e", "-c", rest], last)
         elif not self.shared:
             raise ValueError("a command stands below a name")
         else:
@@ -196,6 +213,13 @@ class Reader:
             self.shared.append(row.steps[-1])
 
     def content_of(self, text: str) -> bytes:
+        """Returns the bytes that a sum of texts in quotes and names stands for."""
+        parts = list(PART.finditer(text))
+        if "".join(part[0] for part in parts) != text:
+            raise ValueError("a content is a sum of texts in quotes and names")
+        return b"".join(self.part_of(part[1]) * int(part[2] or 1) for part in parts)
+
+    def part_of(self, text: str) -> bytes:
         """Returns the bytes that a text in quotes or a name stands for."""
         if text.startswith('"'):
             return ast.literal_eval(f"b{text}")
@@ -227,10 +251,19 @@ class Reader:
             step.scripts[-1] += f"{rest}\n"
         elif (word, rest) in (("any", "order"), ("as", "above")):
             setattr(step, f"{word}_{rest}", True)
+        elif word == "archive":
+            step.archive = step.members = []
+        elif word == "packs":
+            path, form = rest.split(" ")
+            step.packs[path] = form, (members := [])
+            step.members = members
         elif word == "record":
-            step.archive[-1].records.update([rest.split("=", 1)])
+            step.members[-1].records.update([rest.split("=", 1)])
         elif word == "time":
-            step.archive[-1].stamp = rest
+            step.members[-1].stamp = rest
+        elif word == "type":
+            kind, _, target = rest.partition(" ")
+            step.members[-1].kind = bytes.fromhex(kind), target
         elif word == "header":
             path, *words = rest.split(" ")
             step.headers.setdefault(path, {}).update(header_of(words))
@@ -261,7 +294,6 @@ class Reader:
 # Lines that set a part of a command, that add to a list, and that add to a dictionary: the part, and what is read of the rest of the line.
 SET = {
     "status": ("statuses", lambda _, rest: [int(status) for status in rest.split()]),
-    "archive": ("archive", lambda _, rest: []),
     "into": ("into", lambda _, rest: rest),
     "input": ("input", Reader.content_of),
     "frees": ("frees", lambda _, rest: int(rest)),
@@ -270,7 +302,7 @@ SET = {
 }
 APPENDED = {
     "or": ("outs", lambda _, rest: b""),
-    "member": ("archive", lambda reader, rest: Member(*reader.file_of(rest))),
+    "member": ("members", lambda reader, rest: Member(*reader.file_of(rest))),
     "script": ("scripts", lambda _, rest: ""),
     "bytes": ("places", lambda _, rest: spot_of(*rest.split())),
     "spoil": ("spoils", lambda _, rest: spot_of(*rest.split())),
@@ -282,10 +314,11 @@ UPDATED = {
     "leaves": ("leaves", Reader.file_of),
     "size": ("sizes", lambda _, rest: (rest.rpartition(" ")[0], int(rest.rpartition(" ")[2]))),
     "makes": ("makes", Reader.file_of),
+    "blocks": ("blocks", Reader.file_of),
     "removes": ("makes", lambda _, rest: (rest, None)),
 }
 # Lines of what becomes of the volume.
-CHANGES = {"makes", "removes", "header", "directory", "no", "frees", "becomes", "writes"}
+CHANGES = {"makes", "removes", "header", "blocks", "directory", "no", "frees", "becomes", "writes"}
 
 
 def lines_of(text: str) -> list[tuple[int, str, bool]]:
@@ -297,7 +330,7 @@ def lines_of(text: str) -> list[tuple[int, str, bool]]:
         if line:
             group.append((number, line))
             continue
-        for value in next((shlex.split(line[5:]) for _, line in group if line.startswith("each ")), [None]):
+        for value in [value for _, line in group if line.startswith("each ") for value in shlex.split(line[5:])] or [None]:
             kept = [(at, line) for at, line in group if not line.startswith(("#", "each "))]
             found += [(at, line if value is None else filled(line, value), place == 0) for place, (at, line) in enumerate(kept)]
         group = []

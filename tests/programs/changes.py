@@ -1,52 +1,29 @@
 """How a change is saved, and failures of the host; random files there and back, by a reader of its own."""
+import collections
 import concurrent.futures
-import datetime
 import fcntl
-import hashlib
-import io
 import os
-import pathlib
 import random
 import signal
-import subprocess
-import tarfile
+from collections.abc import Iterable
 from typing import Any
 
-from fs_image import BLOCK, variable
+from fs_image import BLOCK
 from fs_reader import Reader
-from fs_room import NOBODY, OLD, STAMP, Disk, for_each, limited
-from fs_volumes import old_volume
+from fs_room import NOBODY, STAMP, Disk, equal, for_each, limited
 
-TOP = pathlib.Path(__file__).resolve().parent.parent.parent
+AS_NOBODY = {"user": NOBODY, "group": NOBODY, "extra_groups": []}
 
 
 def changes(room: Disk, *words: str, **more: Any) -> None:
     """Runs `mkdir NEW` with these words before the image, and looks that it is done."""
-    status, out, err = room.f11fs(*words, "--stamp", STAMP, "disk", "mkdir", "NEW", **more)
-    room.assertEqual((status, out, err), (0, b"", b""), "a change")
+    equal(room.does(*words, "--stamp", STAMP, "disk", "mkdir", "NEW", **more), b"", "a change")
     assert "[NEW]" in room.volume().directories, "the change is not there"
 
 
-def refuses(room: Disk, why: str, *words: str, status: int = 3, path: str = "disk", **more: Any) -> None:
+def refuses(room: Disk, why: str, *words: str, path: str = "disk", **more: Any) -> None:
     """Runs `mkdir NEW` with these words before the image, and looks that it is refused and nothing has changed."""
-    names = room.names()
-    ended, out, err = room.f11fs(*words, "--stamp", STAMP, "disk", "mkdir", "NEW", **more)
-    room.assertEqual((ended, out, err.decode()), (status, b"", f"f11fs: {path}: {why}\n"), "a refusal")
-    assert room.is_untouched(), "the image was touched"
-    room.assertEqual(room.names(), names, "files of the host")
-
-
-def local_stamp() -> str:
-    """The time thirteen and a half hours east."""
-    time = datetime.datetime.now(datetime.timezone(datetime.timedelta(hours=13, minutes=30)))
-    months = "JAN FEB MAR APR MAY JUN JUL AUG SEP OCT NOV DEC".split()
-    return f"{time:%d}{months[time.month - 1]}{time:%y%H%M%S}"
-
-
-def as_nobody() -> None:
-    os.setgroups([])
-    os.setgid(NOBODY)
-    os.setuid(NOBODY)
+    room.refuses(3, f"f11fs: {path}: {why}\n", *words, "--stamp", STAMP, "disk", "mkdir", "NEW", **more)
 
 
 def random_bytes(pick: random.Random) -> tuple[bytes, bool]:
@@ -62,8 +39,26 @@ def random_bytes(pick: random.Random) -> tuple[bytes, bool]:
     return data, is_text
 
 
+def has_files(room: Disk, name: str, before: Reader, files: dict[str, tuple[bytes, bool]], got: Iterable[str]) -> Reader:
+    """The volume has these files more than before, by the reader and by `cmp` with the image `old`, and of some by `get`; the volume then."""
+    volume, wanted = room.volume(name), before.contents()
+    for path, (data, is_text) in files.items():
+        if is_text:
+            equal((volume.records(path), volume.files[volume.paths[path]].kind), (data.split(b"\n")[:-1], 2), path)
+        else:
+            equal(volume.data(path), data, path)
+        wanted[path] = volume.data(path)
+    equal(volume.contents(), wanted, "files of the volume")
+    for path in got:
+        equal(room.f11fs(name, "get", path, "-"), (0, files[path][0], b""), f"get {path}")
+    room.is_sound(name)
+    status, out, _ = room.f11fs(name, "cmp", "old")
+    equal((status, sorted(out.decode().splitlines())), (7, sorted(f"{path}: only in the first image" for path in files)), "cmp")
+    return volume
+
+
 def round_trip(room: Disk, seed: int) -> None:
-    """Puts files on a volume in one run, reads them by the reader and by `get`, and compares the volumes by `cmp`."""
+    """Puts files on a volume in one run, and looks at them."""
     pick = random.Random(seed)
     (room.folder / "old").write_bytes(room.before)
     files, commands = {}, []
@@ -72,31 +67,15 @@ def round_trip(room: Disk, seed: int) -> None:
         name = f"{pick.choice('abcxyz')}{number}.{pick.choice(('txt', 'dat', 't', ''))}".rstrip(".")
         (room.folder / name).write_bytes(data)
         folder = pick.choice(("[1,2]", "[0,0]"))
-        files[f"{folder}{name.upper()}{'' if '.' in name else '.'};1"] = name, data, is_text
+        files[f"{folder}{name.upper()}{'' if '.' in name else '.'};1"] = data, is_text
         commands.append(f"put {name} {folder}\n")
-    blocks = sum(-(-(len(data) + 3 * data.count(b"\n")) // BLOCK) for _, data, _ in files.values())
-    status, out, err = room.f11fs("-q", "--stamp", STAMP, "disk", "-f", "-", input="".join(commands).encode(), stdin=None)
-    if blocks > 24:
-        assert (status, room.is_untouched()) == (5, True) or status == 0, f"{status} {err!r}"
-        if status:
-            return
-    room.assertEqual((status, out, err), (0, b"", b""), f"put {blocks} blocks")
-    volume = room.volume()
-    wanted = Reader(room.before).contents()
-    for path, (name, data, is_text) in files.items():
-        if is_text:
-            room.assertEqual(volume.records(path), data.split(b"\n")[:-1], path)
-            room.assertEqual(volume.files[volume.paths[path]].kind, 2, path)
-        else:
-            room.assertEqual(volume.data(path), data, path)
-        wanted[path] = volume.data(path)
-        got = room.f11fs("disk", "get", path, "-")
-        room.assertEqual(got, (0, data, b""), f"get {path}")
-    room.assertEqual(volume.contents(), wanted, "files of the volume")
-    status, out, err = room.f11fs("disk", "check", "--all")
-    room.assertEqual((status, out, err), (0, b"sound\n", b""), "check")
-    status, out, err = room.f11fs("disk", "cmp", "old")
-    room.assertEqual((status, sorted(out.decode().splitlines())), (7, sorted(f"{path}: only in the first image" for path in files)), "cmp")
+    blocks = sum(-(-(len(data) + 3 * data.count(b"\n")) // BLOCK) for data, _ in files.values())
+    status, out, err = room.f11fs("-q", "--stamp", STAMP, "disk", "-f", "-", input="".join(commands).encode())
+    if blocks > 24 and status:
+        equal((status, room.is_untouched()), (5, True), f"{err!r}")
+        return
+    equal((status, out, err), (0, b"", b""), f"put {blocks} blocks")
+    has_files(room, "disk", Reader(room.before), files, files)
 
 
 def growing(room: Disk, seed: int) -> None:
@@ -104,125 +83,35 @@ def growing(room: Disk, seed: int) -> None:
     pick = random.Random(100_000 + seed)
     blocks = pick.choice((50, 64, 130, 300, 700))
     numbers = pick.randrange(1, min(90, blocks // 3))
-    room.assertEqual(room.f11fs("--stamp", STAMP, "vol", "init", str(blocks), "--files", str(numbers))[::2], (0, b""), "init")
-    room.assertEqual(room.f11fs("--stamp", STAMP, "vol", "mkdir", "NEW"), (0, b"", b""), "mkdir")
-    before, versions, refused, number = room.volume("vol"), {}, 0, 0
+    equal(room.f11fs("--stamp", STAMP, "vol", "init", str(blocks), "--files", str(numbers))[::2], (0, b""), "init")
+    room.does("--stamp", STAMP, "vol", "mkdir", "NEW")
+    before, versions, refused, number = room.volume("vol"), collections.Counter[str](), 0, 0
     while refused < 2 and number < 150:
         (room.folder / "old").write_bytes(before.image)
-        wanted, commands, texts = before.contents(), [], {}
-        blocks = 0
+        commands, texts, blocks = [], {}, 0
         for _ in range(pick.choice((1, 2, 7, 40))):
             number += 1
             data, is_text = random_bytes(pick) if pick.random() < 0.5 else (b"", True)
             (room.folder / f"h{number}").write_bytes(data)
             path = f"{pick.choice(('[NEW]', '[NEW]', '[NEW]', '[0,0]'))}{pick.choice('ABCDEFGHIJKLMNOPQRSTUVWXYZ')}{pick.randrange(3)}.{pick.choice(('TXT', 'D', ''))}"
             commands.append(f"put h{number} {path}\n")
-            texts[f"{path};{versions.get(path, 0) + 1}"] = data, is_text
-            versions[path] = versions.get(path, 0) + 1
+            versions[path] += 1
+            texts[f"{path};{versions[path]}"] = data, is_text
             blocks += -(-(len(data) + 3 * data.count(b"\n")) // BLOCK)
-        status, out, err = room.f11fs("-q", "--stamp", STAMP, "vol", "-f", "-", input="".join(commands).encode(), stdin=None)
+        status, out, err = room.f11fs("-q", "--stamp", STAMP, "vol", "-f", "-", input="".join(commands).encode())
         # A directory gets a block for 32 names; INDEXF.SYS grows by the headers that are wanted, and its own header has room for 102 pieces.
         may_be_full = blocks + 2 * len(texts) // 32 + 4 + len(texts) > before.free or len(before.files) + len(texts) + 8 > before.most_files
         if status == 5 and (may_be_full or before.header(1)[100] // 2 + len(texts) > 102):
             assert b"VolumeFull" in err or b"HeadersFull" in err, f"{err!r}"
-            room.assertEqual((room.folder / "vol").read_bytes(), before.image, "the image after a refusal")
+            equal((room.folder / "vol").read_bytes(), before.image, "the image after a refusal")
             refused += 1
-            for path in texts:
-                versions[path.split(";")[0]] -= 1
+            versions.subtract(path.split(";")[0] for path in texts)
             continue
-        room.assertEqual((status, out, err), (0, b"", b""), f"put {len(texts)} files, {blocks} blocks of {before.free}")
-        volume = room.volume("vol")
-        for path, (data, is_text) in texts.items():
-            room.assertEqual(volume.records(path) if is_text else volume.data(path), data.split(b"\n")[:-1] if is_text else data, path)
-            wanted[path] = volume.data(path)
-        room.assertEqual(volume.contents(), wanted, "files of the volume")
-        for path in pick.sample(sorted(texts), min(3, len(texts))):
-            room.assertEqual(room.f11fs("vol", "get", path, "-"), (0, texts[path][0], b""), f"get {path}")
-        room.assertEqual(room.f11fs("vol", "check", "--all"), (0, b"sound\n", b""), "check")
-        status, out, err = room.f11fs("vol", "cmp", "old")
-        room.assertEqual((status, sorted(out.decode().splitlines())), (7, sorted(f"{path}: only in the first image" for path in texts)), "cmp")
-        before = volume
-
-
-# What people do who put files into a volume, line by line as they write it in a shell.
-TASKS = r"""
-./f11fs disk.dsk put notes.txt 1,2/
-./f11fs disk.dsk append 1,2/NOTES.TXT more.txt
-./f11fs disk.dsk get 1,2/NOTES.TXT back.txt
-./f11fs disk.dsk rm --newest 1,2/NOTES.TXT
-./f11fs disk.dsk purge '1,2/*'
-./f11fs disk.dsk cp --from old.dsk '[1,2]*.*' 1,2
-./f11fs disk.dsk chmod '[RWED,RWED,,]' 1,2/NOTES.TXT
-./f11fs disk.dsk chown '[1,2]' 1,2/NOTES.TXT
-./f11fs disk.dsk label WORK
-./f11fs new.dsk init RL02 --label WORK
-./f11fs new.dsk mkdir 1,2
-./f11fs new.dsk untar disk.tar
-./f11fs new.dsk put *.txt 1,2/
-./f11fs new.dsk put -r -p src SRC
-"""
+        equal((status, out, err), (0, b"", b""), f"put {len(texts)} files, {blocks} blocks of {before.free}")
+        before = has_files(room, "vol", before, texts, pick.sample(sorted(texts), min(3, len(texts))))
 
 
 class Changes(Disk):
-    def test_mode_and_owner_are_kept(self) -> None:
-        self.image.chmod(0o640)
-        if os.geteuid() == 0:
-            os.chown(self.image, 1234, 2345)
-        was = self.image.stat()
-        changes(self)
-        now = self.image.stat()
-        self.assertEqual((now.st_mode, now.st_uid, now.st_gid), (was.st_mode, was.st_uid, was.st_gid), "mode and owner")
-        assert now.st_ino != was.st_ino, "the image was written in place"
-        self.assertEqual(self.names(), ["disk"], "files of the host")
-
-    def test_link_is_followed(self) -> None:
-        (self.folder / "inner").mkdir()
-        os.replace(self.image, self.folder / "inner" / "real")
-        self.image.symlink_to("inner/real")
-        changes(self)
-        assert self.image.is_symlink(), "the link is gone"
-        self.assertEqual(self.names(), ["disk", "inner"], "files of the host")
-        self.assertEqual([path.name for path in (self.folder / "inner").iterdir()], ["real"], "files beside the image")
-
-    def test_several_names(self) -> None:
-        os.link(self.image, self.folder / "other")
-        refuses(self, "it has several names (hard links); --break-links changes only this one")
-        refuses(self, "it has several names (hard links); --break-links changes only this one", "--backup")
-        changes(self, "--break-links")
-        self.assertEqual((self.folder / "other").read_bytes(), self.before, "the other name")
-
-    def test_backup_is_kept(self) -> None:
-        changes(self, "--backup")
-        kept = self.folder / "disk~"
-        self.assertEqual((kept.read_bytes(), kept.stat().st_mtime), (self.before, OLD), "the backup")
-        self.assertEqual(self.names(), ["disk", "disk~"], "files of the host")
-        second = self.image.read_bytes()
-        status, _, err = self.f11fs("--backup", "--stamp", STAMP, "disk", "mkdir", "MORE")
-        self.assertEqual((status, err), (0, b""), "another change")
-        self.assertEqual(kept.read_bytes(), second, "the backup of the second change")
-        self.assertEqual(self.image.stat().st_nlink, 1, "names of the image")
-
-    def test_backup_that_was_cut_off(self) -> None:
-        os.link(self.image, self.folder / "disk~")
-        changes(self, "--backup")
-        self.assertEqual((self.folder / "disk~").read_bytes(), self.before, "the backup")
-
-    def test_o_stands_before_the_command_or_behind_it(self) -> None:
-        self.does("-o", "new", "--stamp", STAMP, "disk", "mkdir", "NEW")
-        self.does("--stamp", STAMP, "disk", "mkdir", "-o", "newer", "NEW")
-        self.assertEqual((self.folder / "newer").read_bytes(), (self.folder / "new").read_bytes())
-
-    def test_new_files_have_the_time_of_the_host(self) -> None:
-        zone = {"TZ": "XYZ-13:30"}
-        path = "[0,0]A.TXT;1"
-        (self.folder / "a.txt").write_bytes(b"a\n")
-        early = local_stamp()
-        status, _, err = self.f11fs("disk", "put", "a.txt", env={**os.environ, **zone})
-        late = local_stamp()
-        self.assertEqual((status, err), (0, b""), "a put")
-        volume = self.volume()
-        created = volume.files[volume.paths[path]].created.decode()
-        assert created in (early, late) or early[7:] < created[7:] < late[7:], f"{created} is not between {early} and {late}"
 
     def test_lock_is_respected(self) -> None:
         for kind in (fcntl.LOCK_EX, fcntl.LOCK_SH):
@@ -279,51 +168,12 @@ class Changes(Disk):
             os.chown(self.image, owner, owner)
             self.folder.chmod(folder_mode)
             os.chown(self.folder, folder_owner, folder_owner)
-            refuses(self, why, preexec_fn=as_nobody)
+            refuses(self, why, **AS_NOBODY)
+            if mode == 0o444:
+                self.does("-o", "new", "--stamp", STAMP, "disk", "mkdir", "NEW", **AS_NOBODY)
         os.chown(self.image, NOBODY, NOBODY)
-        changes(self, preexec_fn=as_nobody)
+        changes(self, **AS_NOBODY)
 
-    def test_tasks_of_a_shell(self) -> None:
-        """Files put in, appended to, removed and copied, a new volume, an archive and a folder."""
-        commands = TASKS.replace("./f11fs", str(self.program))
-        os.rename(self.image, self.folder / "disk.dsk")
-        texts = {"notes.txt": b"one\n\ntwo, three\n", "more.txt": b"four\n", "other.txt": b""}
-        for name, data in texts.items():
-            (self.folder / name).write_bytes(data)
-        (self.folder / "old.dsk").write_bytes(old_volume().bytes())
-        (self.folder / "src/5,6").mkdir(parents=True)
-        (self.folder / "src/5,6/deep.txt").write_bytes(b"four\n")
-        with tarfile.open(self.folder / "disk.tar", "w") as archive:
-            packed = tarfile.TarInfo("1,2/packed.txt;7")
-            packed.size = 4
-            archive.addfile(packed, io.BytesIO(b"two\n"))
-        ran = subprocess.run(["sh", "-e", "-c", commands], cwd=self.folder, stdin=subprocess.DEVNULL, capture_output=True,
-                timeout=60)
-        self.assertEqual((ran.returncode, ran.stdout, ran.stderr), (0, b"", b""), "the commands")
-        come = {"[1,2]OLD.TXT;4": variable(b"old")}
-        self.assertEqual(self.volume("disk.dsk").contents(), {**Reader(self.before).contents(), **come}, "what is left of what was put")
-        volume = self.volume("new.dsk")
-        self.assertEqual(volume.contents()["[1,2]PACKED.TXT;7"], variable(b"two"), "what came out of the archive")
-        self.assertEqual(volume.contents()["[SRC.5,6]DEEP.TXT;1"], variable(b"four"), "what came out of the folder")
-        texts["back.txt"] = texts["notes.txt"] + texts["more.txt"]
-        self.assertEqual(len(volume.image), 20480 * BLOCK, "bytes of an RL02")
-        self.assertEqual({name: volume.records(f"[1,2]{name.upper()};1") for name in texts},
-                {name: data.split(b"\n")[:-1] for name, data in texts.items()}, "texts")
-
-    def test_same_name_in_many_images(self) -> None:
-        """examples/where.sh lists a file by its name, and by its sum, in images that have it or not."""
-        texts = {"a.dsk": b"one\n", "b.dsk": b"two\n", "c.dsk": b"one\n", "d.dsk": None}
-        for name, text in texts.items():
-            (self.folder / name).write_bytes(self.before)
-            if text is not None:
-                (self.folder / "same.txt").write_bytes(text)
-                self.assertEqual(self.f11fs(name, "put", "-b", "same.txt", "1,2/")[0], 0, f"put into {name}")
-        ran = subprocess.run(["sh", str(TOP / "examples" / "where.sh"), "SAME.*", *texts], cwd=self.folder, stdin=subprocess.DEVNULL,
-                capture_output=True, env={**os.environ, "F11FS": str(self.program)}, timeout=60)
-        sums = {name: hashlib.sha256(text).hexdigest() for name, text in texts.items() if text is not None}
-        wanted = sorted(f"{total} {name} [1,2]SAME.TXT;1\n" for name, total in sums.items())
-        self.assertEqual((ran.returncode, ran.stdout.decode()), (0, "".join(wanted)), "the files of the name")
-        assert all(line.startswith(b"f11fs: d.dsk") or b"SAME" in line for line in ran.stderr.splitlines()), ran.stderr
 
 for_each(Changes, "round_trip", range(100), round_trip)
 for_each(Changes, "growing", range(25), growing, lambda seed: lambda: None)

@@ -11,7 +11,7 @@ import sys
 import tempfile
 import time
 
-from fs_room import NOBODY, OLD, STAMP, Disk, for_each, limited
+from fs_room import NOBODY, STAMP, Disk, files_of, for_each, limited
 
 FILE, OTHER = "[1,2]NOTES.TXT", "[1,2]OTHER.TXT"
 
@@ -33,11 +33,6 @@ COMMANDS = [
     ("--stamp", STAMP, "disk", "untar", "-"), ("--stamp", STAMP, "disk", "cp", "--from", "linked", FILE, "[0,0]"), ("--stamp", STAMP, "disk", "repair", "all"),
     ("--stamp", STAMP, "-o", "new", "disk", "mkdir", "NEW"), ("--stamp", STAMP, "made", "init", "80"), ("--stamp", STAMP, "linked", "mkdir", "NEW"),
 ]
-
-
-def state_of(folder: pathlib.Path) -> dict[str, bytes | None]:
-    """Each path of a folder, with its bytes."""
-    return {str(path.relative_to(folder)): path.read_bytes() if path.is_file() else None for path in sorted(folder.rglob("*"))}
 
 
 def laid(room: Disk, name: str) -> pathlib.Path:
@@ -65,15 +60,15 @@ def with_closed(room: Disk, closed: str) -> None:
         open_folder, folder = laid(room, f"open{number}"), laid(room, f"closed{number}")
         ample = run_closed(room.program, open_folder, "", words)
         status = run_closed(room.program, folder, closed, words)
-        before, after = state_of(laid(room, f"before{number}")), state_of(folder)
+        before, after = files_of(laid(room, f"before{number}")), files_of(folder)
         if "-" in words and "<&-" in closed:
             # Standard input that is closed is no file that is empty.
             room.assertEqual((status, after == before), (3, True), f"{words} {closed}: status, and whether the files of the host are as before")
         elif "rescue" in words and status == 3:
             # It ends where its first line cannot be written.
-            assert before.items() <= after.items() <= state_of(open_folder).items(), f"{words} {closed}: files of the host"
+            assert before.items() <= after.items() <= files_of(open_folder).items(), f"{words} {closed}: files of the host"
         else:
-            assert after == state_of(open_folder), f"{words} {closed}: status {status}, files of the host"
+            assert after == files_of(open_folder), f"{words} {closed}: status {status}, files of the host"
         room.assertIn(status, (ample, 3), f"{words} {closed}")
 
 
@@ -155,6 +150,12 @@ call(None, 4096, 1, 1, held, 0)
 os.close(held)
 """
 
+# A process with a name that is no text.
+NAMED = """import os
+open('/proc/self/comm', 'wb').write(b'a\\x1b[7mb\\n')
+held = open('disk', 'r+b')
+"""
+
 # A thread that has a table of descriptors of its own, with the image in it.
 THREADED = """import ctypes, os, threading
 opened = threading.Event()
@@ -168,15 +169,15 @@ opened.wait()
 """
 
 
-def held_by(room: Disk, words: str) -> None:
-    """A change of an image that a Python program has open without a descriptor of its own."""
+def held_by(room: Disk, words: str, name: str = r".+") -> None:
+    """A change of an image that a Python program of this name has open."""
     with subprocess.Popen([sys.executable, "-c", f"{words}print('open', flush=True)\ninput()\nos._exit(0)"], cwd=room.folder, stdin=subprocess.PIPE,
             stdout=subprocess.PIPE) as held:
         held.stdout.readline()
         status, out, err = room.f11fs(*MKDIR)
         held.communicate(b"\n")
     room.assertEqual((status, out), (3, b""), "a change of an image that is open")
-    room.fits(err, busy(held.pid), "the line")
+    room.fits(err, busy(held.pid, name), "the line")
     assert room.is_untouched(), "the image was touched"
     room.assertEqual(room.f11fs(*MKDIR), (0, b"", b""), "a change of an image that was open")
 
@@ -199,25 +200,7 @@ NO_SYNC = """int fsync(int file) {
 """
 
 
-def run_in(room: Disk, folder: pathlib.Path, *words: str) -> tuple[int, bytes, bytes]:
-    """Runs the program in another folder; returns the status, the output and the errors."""
-    ran = subprocess.run([room.program, *words], cwd=folder, stdin=subprocess.DEVNULL, capture_output=True, timeout=120)
-    return ran.returncode, ran.stdout, ran.stderr
-
-
 class Host(Disk):
-    def test_closed_streams_of_f11(self) -> None:
-        for number, closed in enumerate(("<&-", ">&-", "2>&-", "<&- >&- 2>&-")):
-            for words in (("disk",), ("disk", "script", "--out", "new"), ("disk", "none", "--out", "new")):
-                folder = self.folder / f"f11.{number}.{len(words)}.{words[-2:][0]}.{words[1:2] or 0}".replace("/", "")
-                folder.mkdir()
-                (folder / "disk").write_bytes(self.before)
-                (folder / "script").write_bytes(b"USER [1,1]\nLIST 4,4\nSTAT 9,9\n")
-                status = run_closed(self.f11, folder, closed, words)
-                self.assertEqual((folder / "disk").read_bytes(), self.before, f"the image after {words} {closed}")
-                assert status in (0, 1, 2, 3), f"{words} {closed}: status {status}"
-                if (folder / "new").exists():
-                    self.assertEqual(len((folder / "new").read_bytes()) % 512, 0, "bytes of the new image behind its blocks")
 
     def test_locked_image_is_open_for_reading_alone(self) -> None:
         run, flags = waiting(self)
@@ -247,13 +230,7 @@ class Host(Disk):
         self.assertEqual(ended(run), (0, b"", b""), "a change")
 
     def test_name_of_the_process_is_shown(self) -> None:
-        words = "open('/proc/self/comm', 'wb').write(b'a\\x1b[7mb\\n'); held = open('disk', 'r+b'); print('open', flush=True); input()"
-        with subprocess.Popen([sys.executable, "-c", words], cwd=self.folder, stdin=subprocess.PIPE, stdout=subprocess.PIPE) as held:
-            held.stdout.readline()
-            status, _, err = self.f11fs(*MKDIR)
-            held.communicate(b"\n")
-        self.assertEqual(status, 3, "a change of an image that is open")
-        self.fits(err, busy(held.pid, r"a\\x1b\[7mb"), "the line")
+        held_by(self, NAMED, r"a\\x1b\[7mb")
 
     def test_image_that_another_process_maps(self) -> None:
         held_by(self, MAPPED)
@@ -332,35 +309,6 @@ class Host(Disk):
         assert self.is_untouched(), "the image was touched"
         self.assertEqual(self.names(), ["disk", "made", "new"], "files of the host")
 
-    def test_reasons_of_writing(self) -> None:
-        self.assertEqual(self.f11fs(*MKDIR, preexec_fn=limited(8192, True)), (3, b"", b"f11fs: disk: writing failed: it is too large\n"), "a change")
-        self.assertEqual(self.f11fs("-o", "new", *MKDIR, preexec_fn=limited(8192, True)), (3, b"", b"f11fs: new: writing failed: it is too large\n"),
-                "a change elsewhere")
-        assert self.is_untouched(), "the image was touched"
-        self.assertEqual(self.names(), ["disk"], "files of the host")
-
-    def test_new_image_has_the_mode_of_the_old(self) -> None:
-        for mode in (0o600, 0o640, 0o444, 0o666):
-            self.image.chmod(mode)
-            self.assertEqual(self.f11fs("-o", f"new{mode:o}", *MKDIR), (0, b"", b""), "a change elsewhere")
-            self.assertEqual((self.folder / f"new{mode:o}").stat().st_mode & 0o7777, mode, "the mode")
-        self.assertEqual(self.f11fs("--stamp", STAMP, "made", "init", "80", umask=0o027), (0, b"", b""), "a new volume")
-        self.assertEqual((self.folder / "made").stat().st_mode & 0o777, 0o640, "the mode of a new volume")
-
-    def test_sparse_image_stays_sparse(self) -> None:
-        made = self.folder / "made"
-        self.assertEqual(self.f11fs("--stamp", STAMP, "made", "init", "20000"), (0, b"", b""), "a new volume")
-        assert made.stat().st_blocks < 2000, "the zeros of a new volume are on the disk"
-        self.assertEqual(self.f11fs("--stamp", STAMP, "made", "mkdir", "NEW"), (0, b"", b""), "a change")
-        assert made.stat().st_blocks < 2000, "the zeros of a sparse image are on the disk"
-        self.assertEqual(self.f11fs("-o", "copy", "--stamp", STAMP, "made", "mkdir", "MORE"), (0, b"", b""), "a change elsewhere")
-        assert (self.folder / "copy").stat().st_blocks < 2000, "the zeros of a copy are on the disk"
-        self.assertEqual((self.folder / "copy").stat().st_size, 20000 * 512, "the size of the copy")
-        made.write_bytes(made.read_bytes())
-        self.assertEqual(self.f11fs("--stamp", STAMP, "made", "mkdir", "MORE"), (0, b"", b""), "a change of a full image")
-        assert made.stat().st_blocks >= 20000, "a full image has holes"
-        self.assertEqual(self.f11fs("made", "check"), (0, b"sound\n", b""), "the volume")
-
     def test_hidden_file_that_another_program_writes(self) -> None:
         hidden = self.folder / ".new.f11fs-new"
         hidden.write_bytes(b"a part")
@@ -371,58 +319,6 @@ class Host(Disk):
         self.assertEqual((hidden.read_bytes(), self.names()), (b"a part", [".new.f11fs-new", "disk"]), "files of the host")
         self.assertEqual(self.f11fs("-o", "new", *MKDIR), (0, b"", b""), "a change elsewhere")
         self.assertEqual(self.names(), ["disk", "new"], "files of the host")
-
-    def test_links_are_not_written_through(self) -> None:
-        (self.folder / "new").symlink_to("none")
-        self.assertEqual(self.f11fs("-o", "new", *MKDIR), (3, b"", b"f11fs: new: it already exists\n"), "a link that leads to nothing")
-        (self.folder / ".other.f11fs-new").symlink_to("disk")
-        self.assertEqual(self.f11fs("-o", "other", *MKDIR), (3, b"", b"f11fs: other: no new file can be made: it is not a regular file\n"),
-                "a link under the hidden name")
-        assert self.is_untouched(), "the image was touched"
-        self.assertEqual(self.names(), [".other.f11fs-new", "disk", "new"], "files of the host")
-
-    def test_names_that_an_ended_run_left(self) -> None:
-        for word in ("old", "new"):
-            os.link(self.image, self.folder / f".disk.f11fs-{word}")
-        self.assertEqual(self.f11fs("--backup", *MKDIR), (0, b"", b""), "a change")
-        self.assertEqual(self.names(), ["disk", "disk~"], "files of the host")
-        self.assertEqual((self.folder / "disk~").read_bytes(), self.before, "the backup")
-        os.link(self.image, self.folder / "other")
-        os.link(self.image, self.folder / ".disk.f11fs-old")
-        status, _, err = self.f11fs("--stamp", STAMP, "disk", "mkdir", "MORE")
-        self.assertEqual((status, err), (3, b"f11fs: disk: it has several names (hard links); --break-links changes only this one\n"), "another name")
-
-    def test_folder_whose_name_is_no_text(self) -> None:
-        folder = os.path.join(os.fsencode(self.folder), b"caf\xe9")
-        os.mkdir(folder)
-        os.rename(self.image, os.path.join(folder, b"disk"))
-        self.assertEqual(run_in(self, folder, "--backup", *MKDIR), (0, b"", b""), "a change")
-        self.assertEqual(sorted(os.listdir(folder)), [b"disk", b"disk~"], "files of the host")
-        self.assertEqual(run_in(self, folder, "-o", "new", "--stamp", STAMP, "disk", "mkdir", "MORE"), (0, b"", b""), "a change elsewhere")
-        self.assertEqual(sorted(os.listdir(folder)), [b"disk", b"disk~", b"new"], "files of the host")
-
-    def test_names_that_leave_no_room(self) -> None:
-        for name in ("d" * 243, "d" * 254, "é" * 127, "x" + "é" * 126):
-            folder = self.folder / name[:3]
-            folder.mkdir(exist_ok=True)
-            (folder / name).write_bytes(self.before)
-            self.assertEqual(run_in(self, folder, "--stamp", STAMP, name, "mkdir", "NEW"), (0, b"", b""), "a change")
-            self.assertEqual([path.name for path in folder.iterdir()], [name], "files of the host")
-            (folder / name).unlink()
-            self.assertEqual(self.f11fs("--stamp", STAMP, "-o", folder / name, "disk", "mkdir", "NEW"), (0, b"", b""), "a change elsewhere")
-            self.assertEqual([path.name for path in folder.iterdir()], [name], "files of the host")
-            (folder / name).unlink()
-
-    def test_links_in_a_chain_and_in_a_ring(self) -> None:
-        (self.folder / "inner").mkdir()
-        (self.folder / "inner" / "second").symlink_to("../disk")
-        (self.folder / "first").symlink_to("inner/second")
-        self.assertEqual(self.f11fs("--stamp", STAMP, "first", "mkdir", "NEW"), (0, b"", b""), "a change")
-        assert (self.folder / "first").is_symlink() and not self.image.is_symlink(), "a link was replaced"
-        assert "[NEW]" in self.volume().directories, "the change is not there"
-        (self.folder / "ring").symlink_to("gnir")
-        (self.folder / "gnir").symlink_to("ring")
-        self.assertEqual(self.f11fs("ring", "mkdir", "NEW"), (3, b"", b"f11fs: ring: reading failed: its symbolic links form a loop\n"), "a ring")
 
     def test_block_device(self) -> None:
         if os.geteuid() != 0:
@@ -439,20 +335,7 @@ class Host(Disk):
         finally:
             subprocess.run(["losetup", "--detach", device], check=False)
 
-    def test_right_to_write_is_asked(self) -> None:
-        if os.geteuid() != 0:
-            return
-        self.image.chmod(0o444)
-        os.chown(self.image, NOBODY, NOBODY)
-        os.chown(self.folder, NOBODY, NOBODY)
-        how = {"user": NOBODY, "group": NOBODY, "extra_groups": []}
-        self.assertEqual(self.f11fs(*MKDIR, **how), (3, b"", b"f11fs: disk: no permission to write to it\n"), "a change")
-        self.assertEqual(self.f11fs("-o", "new", *MKDIR, **how), (0, b"", b""), "a change elsewhere")
-        self.image.chmod(0o644)
-        self.folder.chmod(0o555)
-        self.assertEqual(self.f11fs(*MKDIR, **how), (3, b"", b"f11fs: disk: no new file can be made: no permission\n"),
-                "a change in a folder that is closed")
-        self.assertEqual(self.image.stat().st_mtime, OLD, "when the image was written")
+
 
 
 for_each(Host, "closed_streams", ("<&-", ">&-", "2>&-", "<&- >&- 2>&-"), with_closed)

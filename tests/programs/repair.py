@@ -6,9 +6,8 @@ import struct
 from fs_image import BLOCK, changed, entries, name
 from fs_loose import Loose, text_of
 from fs_room import OLD, STAMP, Disk, limited, on
-from fs_volumes import lost_volume, plain_volume, volume_named
+from fs_volumes import plain_volume, volume_named
 
-MARKED = "used: block 47 was marked as free\n"
 NOT_DONE = "names, lost, free: not done: the image is refused: "
 
 
@@ -70,35 +69,6 @@ def crowded() -> bytes:
 
 
 class Repair(Disk):
-    @on(lambda: changed(plain_volume().bytes(free=[47]), 46, 16 + 6, struct.pack("<5H", *name("NOTES.TXT;1")), has_sum=False))
-    def test_used_is_saved_where_the_rest_is_not_done(self) -> None:
-        status, out, err = self.f11fs("--stamp", STAMP, "disk", "repair", "used", "free")
-        self.assertEqual((status, err), (7, b""), "repair")
-        assert out.decode().startswith(f"{MARKED}{NOT_DONE}DuplicateName 6") and out.count(b"\n") == 2, out
-        bit = Loose(self.image.read_bytes()).free[47]
-        self.assertEqual((bit, Loose(self.image.read_bytes()).faults()), (False, {"DuplicateName"}), "the image")
-
-    @on(lambda: lost_volume().bytes())
-    def test_lost_files_get_the_next_versions(self) -> None:
-        before = self.before
-        repairs(self, "lost", lines="lost: file 9,1 is entered as NOTES.TXT in [1,3]\nlost: file 11,1 is entered as NOTES.TXT in [1,3]\n")
-        volume = self.volume()
-        self.assertEqual({path: number for path, number in volume.paths.items() if path.startswith("[1,3]")}, {"[1,3]NOTES.TXT;4": 12, "[1,3]NOTES.TXT;5": 9, "[1,3]NOTES.TXT;6": 11}, "[1,3]")
-        self.assertEqual([volume.header(number) for number in (6, 9, 10, 11, 12)], [Loose(before).header(number) for number in (6, 9, 10, 11, 12)], "headers")
-        self.is_sound()
-
-    @on(lambda: changed(lost_volume().bytes(), 2 + 9, 46, struct.pack("<H", 64_000)))
-    def test_a_lost_file_without_a_name_stays_lost(self) -> None:
-        repairs(self, "all", status=7, lines="lost: file 11,1 is entered as NOTES.TXT in [1,3]\nlost: file 9,1 has no name in its header, and stays lost\n")
-        self.assertEqual(Loose(self.image.read_bytes()).lost()[0].number, 9, "what is lost")
-
-    @on(lambda: volume_named("lost-full"))
-    def test_blocks_that_are_freed_first_do_for_a_name(self) -> None:
-        # Blocks that are freed first would do: the order is fixed, so that is a run of its own.
-        self.assertEqual(self.f11fs("disk", "repair", "free")[0], 0, "repair free")
-        self.assertEqual(self.f11fs("--stamp", STAMP, "disk", "repair", "lost")[0], 0, "repair lost behind it")
-        self.assertEqual(self.volume().paths["[1,3]NOTES.TXT;1"], 9, "the file")
-
     @on(dangling_volume)
     def test_names_of_no_file_go(self) -> None:
         lines = [f"names: directory 13 has {text}, which names {file}, and that is no file\n" for text, file in (("A.TXT;1", "9,2"), ("B.TXT;1", "39,1"), ("D.TXT;3", "65535,1"), ("E.TXT;1", "27,1"))]
