@@ -41,7 +41,7 @@ class Folder:
         """Runs the program here; returns the status, the output and the errors."""
         how = {"stdin": None if "input" in more else subprocess.DEVNULL, "capture_output": True, "cwd": self.folder, "timeout": 120, **more}
         ran = subprocess.run([self.program, *words], **how)
-        return ran.returncode, ran.stdout, ran.stderr
+        return ran.returncode, ran.stdout, ran.stderr and harness.steady(ran.stderr)
 
     def does(self, *words: str | bytes, **more: Any) -> bytes:
         """These words are obeyed, and nothing is said; what is printed."""

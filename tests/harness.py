@@ -20,6 +20,13 @@ from collections.abc import Callable, Iterable, Sequence
 from typing import Any
 
 programs: list[pathlib.Path] = []
+# What f11fs adds to its errors if the host is too busy: a change looks for two seconds for other users of the image.
+BUSY = re.compile(rb"f11fs: [^\n]*: [1-9]\d* processes could not be looked at in time; one of them may have it open\n")
+
+
+def steady(errors: bytes) -> bytes:
+    """Returns the errors of f11fs without what it adds on a busy host."""
+    return BUSY.sub(b"", errors)
 
 
 class Case(unittest.TestCase):

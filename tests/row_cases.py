@@ -135,7 +135,7 @@ class Judge:
                 env = {**os.environ, "PATH": f"{self.programs}:{os.environ['PATH']}", "STAMP": STAMP, "TOP": str(ROWS.parent.parent)}
                 command = [program if program == "sh" else self.programs / program, *stamp, *words]
                 said = subprocess.run(command, cwd=self.folder, env=env, stdout=output, stderr=subprocess.PIPE, timeout=120, **given)
-            out, err, status = said.stdout or b"", said.stderr, said.returncode
+            out, err, status = said.stdout or b"", harness.steady(said.stderr), said.returncode
         wrong, above, self.out = [], self.out, out
         if status not in step.statuses:
             wrong.append(f"status {status}, not {' or '.join(map(str, step.statuses))}")
