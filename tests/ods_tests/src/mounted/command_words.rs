@@ -46,7 +46,9 @@ fn words_that_are_right(rt: HostRuntime) -> Result<(), Fail> {
         ),
         (["--", "--header"].as_slice(), Some("--header"), None),
     ] {
-        let found = parse_words(rt.alloc(), words, VERSION).ok().ok_or("wrong words")?;
+        let found = parse_words(rt.alloc(), words, VERSION)
+            .ok()
+            .ok_or("wrong words")?;
         let wanted = asked(rt.alloc(), image, header)?;
         assert!(rt; found == wanted, "{words:?}");
     }
@@ -65,7 +67,9 @@ fn runs_that_words_ask_for(rt: HostRuntime) -> Result<(), Fail> {
         (["a.dsk"].as_slice(), Run::Scripts),
         (["--limit", "1"].as_slice(), Run::Scripts),
     ] {
-        let found = parse_words(rt.alloc(), words, VERSION).ok().ok_or("wrong words")?;
+        let found = parse_words(rt.alloc(), words, VERSION)
+            .ok()
+            .ok_or("wrong words")?;
         assert!(rt; run_for(&found) == run, "{words:?}");
     }
     Ok(())
@@ -87,7 +91,9 @@ const SERVED: [&str; 9] = [
 #[test]
 fn words_of_a_served_run(rt: HostRuntime) -> Result<(), Fail> {
     for words in [SERVED.as_slice()] {
-        let found = parse_words(rt.alloc(), words, VERSION).ok().ok_or("wrong words")?;
+        let found = parse_words(rt.alloc(), words, VERSION)
+            .ok()
+            .ok_or("wrong words")?;
         assert!(rt; found.image == Some("a.dsk") && found.out == Some("b.dsk"));
         assert!(rt; found.header.is_none() && found.limit == 65_536);
         assert!(rt; *found.stamp.text() == *b"31DEC99235959");
