@@ -20,6 +20,9 @@ const EXTENDS: u32 = 10;
 
 const ROUNDS: u32 = 8;
 
+/// How many volumes are tried at most.
+const VOLUMES: u32 = 8;
+
 /// The volume of 4,200 blocks with A.TXT, file 6,1, of 201 headers with a block each, and B.TXT, file 7,1, of one header. The headers behind the
 /// first are those of the files 17 to 216, from LBN 512 on.
 fn long_and_short(alloc: Global) -> Result<Image, Fail> {
@@ -82,24 +85,36 @@ fn least(
     Ok(least)
 }
 
-/// Without the notes both walk along 201 headers. The least of many times is that of an Extend beside which the machine had no other work.
-#[test]
-fn noted_extend_walks_along_nothing(rt: HostRuntime) -> Result<(), Fail> {
-    let alloc = rt.alloc();
+/// How long an Extend takes at least, in microseconds: where the end is noted, and where it is not.
+fn least_of_both(rt: &(impl Abort + Clock), alloc: Global) -> Result<(u128, u128), Fail> {
     let Ok(mounted) = mount(alloc, long_and_short(alloc)?) else {
         return Err("a sound image, and memory".into());
     };
     let Ok(mut volume) = Volume::new(alloc, mounted, 65_536) else {
         return Err("memory for a volume".into());
     };
-    let others = nine_files(&rt, alloc, &mut volume)?;
+    let others = nine_files(rt, alloc, &mut volume)?;
     let mut noted = Duration::from_secs(900);
     let mut walked = Duration::from_secs(900);
     for _round in 0..ROUNDS {
-        noted = noted.min(least(&rt, &mut volume, &[SECOND])?);
-        walked = walked.min(least(&rt, &mut volume, &others)?);
+        noted = noted.min(least(rt, &mut volume, &[SECOND])?);
+        walked = walked.min(least(rt, &mut volume, &others)?);
     }
-    let (noted, walked) = (noted.as_micros(), walked.as_micros());
+    Ok((noted.as_micros(), walked.as_micros()))
+}
+
+/// Without the notes both walk along 201 headers. The least of many times is that of an Extend beside which the machine had no other work. A busy machine
+/// may have other work beside all of a volume's, so several volumes are tried.
+#[test]
+fn noted_extend_walks_along_nothing(rt: HostRuntime) -> Result<(), Fail> {
+    let alloc = rt.alloc();
+    let (mut noted, mut walked) = least_of_both(&rt, alloc)?;
+    for _volume in 1..VOLUMES {
+        if 3 * noted < 2 * walked {
+            return Ok(());
+        }
+        (noted, walked) = least_of_both(&rt, alloc)?;
+    }
     assert!(rt; 3 * noted < 2 * walked, "{noted} and {walked} microseconds");
     Ok(())
 }
