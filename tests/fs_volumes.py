@@ -239,13 +239,25 @@ def more_images() -> dict[str, bytes]:
     }
 
 
+def crowded_volume() -> Volume:
+    """The plain volume with a file that has all other blocks."""
+    volume = plain_volume()
+    volume.file(13, "FULL.DAT;1", b"full", places=[lbn for lbn in range(volume.blocks) if not volume.is_held[lbn] and lbn > 1], kind=1, size=512)
+    return volume
+
+
 def repair_images() -> dict[str, bytes]:
     """Images with what repair mends, beside those of images() and more_images() that have it."""
     plain = plain_volume().bytes()
-    return {
-        "lost": changed(plain, 46, 0, b"\0\0", has_sum=False),  # the entry of NOTES.TXT is empty
-        "both": plain_volume().bytes(free=[47], used=[65]),
+    images = {
+        "lost": plain,
+        "full-lost": crowded_volume().bytes(used=[0, 1]),
+        "full-free-lost": crowded_volume().bytes(used=[0, 1], free=[47]),
+        "all-used-lost": plain_volume().bytes(used=range(BLOCKS)),
     }
+    # The entry of NOTES.TXT is empty.
+    lost = {name: changed(image, 46, 0, b"\0\0", has_sum=False) for name, image in images.items()}
+    return {**lost, "both": plain_volume().bytes(free=[47], used=[65])}
 
 
 def blocks_of(image: bytes, lbn: int, size: int) -> bytes:
@@ -623,6 +635,11 @@ NAMED: dict[str, Callable[[], bytes]] = {
     "looks-gzip": lambda: b"\x1f\x8b\x08" + bytes(600),
     "looks-zip": lambda: b"PK\x03\x04" + bytes(508),
     "looks-vhd": lambda: b"conectix" + bytes(1016),
+    "looks-xz": lambda: b"\xfd7zXZ\0" + bytes(7),
+    "looks-bzip2": lambda: b"BZh91AY" + bytes(505),
+    "looks-zstd": lambda: b"\x28\xb5\x2f\xfd" + bytes(9),
+    "looks-7z": lambda: b"7z\xbc\xaf\x27\x1c" + bytes(506),
+    "looks-tar": lambda: bytes(257) + b"ustar  " + bytes(760),
     "looks-imd": lambda: b"IMD 1.18: 01/01/2000\r\n" + bytes(5),
     "looks-teledisk": lambda: b"TD\0\0" + bytes(9),
     "looks-rt11": lambda: bytes(1008) + b"DECRT11A    " + bytes(4),

@@ -161,7 +161,7 @@ class Changes(Disk):
             (0o444, NOBODY, 0o755, NOBODY, "no permission to write to it"),
             (0o644, 0, 0o777, 0, "no permission to write to it"),
             (0o600, 0, 0o777, 0, "no permission to write to it"),
-            (0o666, NOBODY, 0o755, 0, "no new file can be made: no permission"),
+            (0o666, NOBODY, 0o755, 0, "no new file .NAME.f11fs-new can be made beside it: no permission"),
             (0o666, 0, 0o777, 0, "its owner or mode cannot be kept: no permission"),
         ):
             self.image.chmod(mode)

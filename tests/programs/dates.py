@@ -16,10 +16,10 @@ def stamps(early: int) -> list[str]:
 
 
 class Dates(Disk):
-    def is_of_the_run(self, path: str, *words: str, second: int = 920_730_906, name: str = "a.txt", **more: object) -> None:
+    def is_of_the_run(self, path: str, *words: str, name: str = "a.txt", **more: object) -> None:
         """A file that is put by these words is of the run, whatever the time of the host file is."""
         self.write({name: b"a\n"})
-        os.utime(self.folder / name, (second, second))
+        os.utime(self.folder / name, (920_730_906, 920_730_906))
         early = int(time.time())
         self.assertEqual(self.does("disk", "put", *words, env=EAST, **more), b"")
         self.assertIn(self.file(path).created.decode(), stamps(early))
@@ -29,9 +29,6 @@ class Dates(Disk):
 
     def test_put_of_standard_input(self) -> None:
         self.is_of_the_run("[0,0]A.TXT;1", "-p", "-", "A.TXT", name="-", input=b"a\n")
-
-    def test_put_of_a_time_before_1970(self) -> None:
-        self.is_of_the_run("[0,0]A.TXT;1", "-p", "a.txt", second=-86400)
 
     def test_put_of_a_directory(self) -> None:
         self.is_of_the_run("[0,0]NEW.DIR;1", "-r", "-p", "tree", "NEW", name="tree/a.txt")

@@ -315,7 +315,7 @@ class Host(Disk):
         hidden.write_bytes(b"a part")
         with open(hidden, "rb") as held:
             fcntl.flock(held, fcntl.LOCK_EX)
-            self.assertEqual(self.f11fs("-o", "new", *MKDIR), (3, b"", b"f11fs: new: no new file can be made: another program is writing to it\n"),
+            self.assertEqual(self.f11fs("-o", "new", *MKDIR), (3, b"", b"f11fs: new: no new file .NAME.f11fs-new can be made beside it: another program is writing to it\n"),
                     "a change elsewhere")
         self.assertEqual((hidden.read_bytes(), self.names()), (b"a part", [".new.f11fs-new", "disk"]), "files of the host")
         self.assertEqual(self.f11fs("-o", "new", *MKDIR), (0, b"", b""), "a change elsewhere")

@@ -1,6 +1,9 @@
 -- What is so where nothing is told as left: of each step, and of one behind another.
 use Rattle.std.proofs.Common.{◌≡◌, ◌∙◌, ◌⊎◌, inl, inr, ◌<◌, ◌++◌, ◌∷◌, [], ℕ, suc, ◌+◌, ◌-◌, List, Bool, true, false, Result, Ok, Err, IfOk, length, refl, sym, ap, subst, get_or, drop, take, arith}
-use Rattle.std.specs.Prelude.{◌==◌, if◌then◌else◌}
+use Rattle.std.specs.Prelude.{◌==◌, if◌then◌else◌, MatchBool, OnOk}
+use Rattle.std.specs.Borrow.{Bor}
+use Rattle.ods_base.specs.declared.file_id.Uic.{Uic}
+use Rattle.ods_filing.specs.Filed.{Filed}
 use Rattle.std.specs.List.{Contains}
 use Rattle.std.proofs.Math.Seq.{drop-cons, take-suc}
 use Rattle.std.proofs.lemmas.Bool.{eqb-true}
@@ -17,7 +20,7 @@ use Rattle.ods_space.specs.Layout.{VolumeLayout}
 use Rattle.ods_repair.specs.Doubled.{HasRenumbered}
 use Rattle.ods_repair.specs.Wholly.{AreRenumberedIn}
 use Rattle.ods_repair.proofs.Wholly.{directory_of}
-use Rattle.f11fs.specs.Mended.{IsWhollyRenumbered, Wholly, is_left_by}
+use Rattle.f11fs.specs.Mended.{EntersAll, EntersLost, EntersNone, EntersNot, HasDirectory, IsWhollyRenumbered, LeavesEntered, LeavesLost, Wholly, is_left_by}
 
 -- nothing is told, so it is as before
 pub same_told : (a b : Bool) (P : Type 0) → b ≡ a → P → Wholly a b P
@@ -65,6 +68,34 @@ pub renumbered_on : (L : VolumeLayout) (ds : List ℕ) (i : ℕ) (K mid : List (
 renumbered_on L ds i K mid goal lt before one J rest =
     let place : i + 1 ≡ suc i = omega arith in
     before J (subst (λ l. AreRenumberedIn L l K J) (sym (drop-cons ds i 0 lt)) (mid, one, subst (λ k. AreRenumberedIn L (drop k ds) mid J) place rest))
+
+-- a volume that is brought back is the old one
+pub again : (old new : Filed) (I : List (List ℕ)) (L : VolumeLayout) (user : Uic) → new ≡ record { image = I; layout = L; user = user } → I ≡ old.image → L ≡ old.layout → user ≡ old.user → new ≡ old
+again old new I L user is image layout same =
+    subst (λ i. new ≡ record { image = i; layout = old.layout; user = old.user }) image
+    (subst (λ l. new ≡ record { image = I; layout = l; user = old.user }) layout
+    (subst (λ u. new ≡ record { image = I; layout = L; user = u }) same is))
+
+-- three steps, one behind another; the last may fail, and leaves something besides
+pub all_done : {A E : Type 0} (r : Result A E) (a b c d : Bool) (P Q S T R : Type 0) → Wholly a b P → Wholly b c Q → OnOk r S → OnOk r (Wholly c d T) → (P → Q → S → T → R) → OnOk r (Wholly a d R)
+all_done (Err e) a b c d P Q S T R first second left third all = tt
+all_done (Ok x) a b c d P Q S T R first second left third all = λ now.
+    let t = third now in
+    let q = second t.0 in
+    let p = first q.0 in (p.0, all p.1 q.1 left t.1)
+
+-- `lost` leaves what entering lost files leaves
+pub lost_left : {A E : Type 0} (r : Result A E) (b : Bool) (stamp : List ℕ) (into : Bor (List ℕ)) (old new : Filed) → b ≡ true → OnOk r (LeavesEntered stamp into old new) → OnOk r (LeavesLost b stamp into old new)
+lost_left (Err e) b stamp into old new wanted is = tt
+lost_left (Ok x) true stamp into old new wanted is = inr is
+lost_left (Ok x) false stamp into old new wanted is = absurd (cc wanted)
+
+-- lost files are entered in the directory that is there or made, or not
+pub entered : {E : Type 0} (r : Result Bool E) (stamp : List ℕ) (into : Bor (List ℕ)) (old mid new : Filed) (dir : FileId) → HasDirectory stamp into old mid dir
+    → IfOk r (λ all. MatchBool all (EntersAll mid dir new) (EntersNot mid dir)) → IfOk r (λ all. MatchBool all (EntersLost stamp into old new) (EntersNone stamp into old))
+entered (Err e) stamp into old mid new dir there is = tt
+entered (Ok true) stamp into old mid new dir there is = (mid, dir, there, is)
+entered (Ok false) stamp into old mid new dir there is = inr (mid, dir, there, is)
 
 -- where no file is told as lost there is none
 pub none_lost : (before : Bool) (ids : List FileId) → is_left_by before ids ≡ false → (before ≡ false) × (ids ≡ [])

@@ -18,15 +18,14 @@ use Rattle.ods_check.specs.declared.fault_line.FaultLine.TheVariants.{Shared}
 use Rattle.ods_check.specs.declared.finding.Finding.{Finding}
 use Rattle.ods_filing.specs.Filed.{Filed}
 use Rattle.ods_paths.specs.Paths.{Said, Says}
-use Rattle.ods_repair.specs.Cleared.{IsCleared}
+use Rattle.ods_repair.specs.Cleared.{IsCleared, IsNotCleared}
 use Rattle.ods_repair.specs.Doubled.{HasRenumbered, IsNotRenumbered}
-use Rattle.ods_repair.specs.Found.{IsFound}
+use Rattle.ods_repair.specs.Found.{IsFound, IsNotFound}
 use Rattle.ods_repair.specs.Freed.{IsFreed, IsNotFreed}
 use Rattle.ods_repair.specs.Unshared.{HasOwnRuns, IsNotUnshared}
 use Rattle.ods_repair.specs.Used.{AreUsed, IsBitmapFault}
 use Rattle.ods_repair.specs.Wholly.{IsAllRenumbered, IsAllUnshared, IsAllUsed}
 use Rattle.ods_repair.specs.declared.fault.RepairFault.{RepairFault}
-use Rattle.ods_repair.specs.declared.fault.RepairFault.TheVariants as unmended
 use Rattle.ods_repair.specs.declared.lost_file.LostFile.{LostFile}
 use Rattle.ods_repair.specs.declared.unsharing.Unshared.{Unshared}
 use Rattle.ods_shell.specs.Named.{AreNamedBy, highest}
@@ -34,9 +33,9 @@ use Rattle.ods_shell.specs.declared.alone.Alone.TheVariants as alone
 use Rattle.ods_shell.specs.declared.facts.Facts.{Facts}
 use Rattle.ods_shell.specs.declared.facts.Kind.TheVariants as kind
 use Rattle.ods_shell.specs.declared.found.Found.{Found as Named}
-use Rattle.ods_shell.specs.declared.status.Status.TheVariants as status
 use Rattle.ods_upkeep.specs.Made.{AreMade}
-use Rattle.fs_reads.specs.Ends.{StopsWith}
+use Rattle.ods_upkeep.specs.Unmade.{AreNotMade}
+use Rattle.ods_upkeep.specs.declared.failure.Failure.{Failure}
 use Rattle.fs_reads.specs.declared.stop.Stop.{Stop}
 use Rattle.fs_reads.specs.declared.stop.Stop.TheVariants as stop
 use Rattle.fs_reads.specs.declared.volume.VolumeFault.TheVariants as image_fault
@@ -88,10 +87,14 @@ abbrev pub LeavesDouble : Bool → List (List ℕ) → List (List ℕ) → Type 
 LeavesDouble false I J = J ≡ I
 LeavesDouble true I J = (L : VolumeLayout) × (ds : List ℕ) × IsLayoutOf I L × All (λ d. IsTrueOf I L (DuplicateName d)) ds × LeavesDirectories L ds I J
 
--- what `names` leaves: entries that named no file are removed
+-- the volume is unchanged, since not all entries that name no file can be removed: one is refused
+abbrev pub ClearsNone : Filed → Filed → Type 0
+ClearsNone old new = (new ≡ old) × ((why : RepairFault) × (left : Filed) × IsNotCleared old left why)
+
+-- what `names` leaves: entries that named no file are removed; or one is refused, and nothing is done
 abbrev pub LeavesNames : Bool → Filed → Filed → Type 0
 LeavesNames false old new = new ≡ old
-LeavesNames true old new = (found : List Dangling) × IsCleared old found new
+LeavesNames true old new = ((found : List Dangling) × IsCleared old found new) ⊎ ClearsNone old new
 
 -- the found entry is this directory
 abbrev pub IsDirectoryFound : Named → FileId → Type 0
@@ -118,14 +121,34 @@ is_left_by before (id ∷ ids) = true
 abbrev pub HasNoLost : Filed → Type 0
 HasNoLost volume = (n : ℕ) → ¬ IsLostFile volume.image volume.layout n
 
--- files that no directory named are entered in the specified one
-abbrev pub EntersLost : List ℕ → Bor (List ℕ) → Filed → Filed → Type 0
-EntersLost stamp into old new = (mid : Filed) × (dir : FileId) × (found : List LostFile) × HasDirectory stamp into old mid dir × IsFound mid dir found new
+-- files that no directory named are entered in this one
+abbrev pub EntersAll : Filed → FileId → Filed → Type 0
+EntersAll old dir new = (found : List LostFile) × IsFound old dir found new
 
--- what `lost` leaves: those files are entered, or there is none, and nothing is done
+-- the directory does not take one of them
+abbrev pub EntersNot : Filed → FileId → Type 0
+EntersNot old dir = (left : Filed) × (why : RepairFault) × IsNotFound old dir left why
+
+-- they are entered in the specified directory
+abbrev pub EntersLost : List ℕ → Bor (List ℕ) → Filed → Filed → Type 0
+EntersLost stamp into old new = (mid : Filed) × (dir : FileId) × HasDirectory stamp into old mid dir × EntersAll mid dir new
+
+-- the directory for them does not exist, and mkdir does not make it
+abbrev pub IsNoDirectoryMade : List ℕ → Bor (List ℕ) → Filed → Type 0
+IsNoDirectoryMade stamp into old = (left : Filed) × (failure : Failure) × AreNotMade None 0 stamp (into ∷ []) old left failure
+
+-- why they are not entered: their directory is not made, or it does not take one of them
+abbrev pub EntersNone : List ℕ → Bor (List ℕ) → Filed → Type 0
+EntersNone stamp into old = IsNoDirectoryMade stamp into old ⊎ ((mid : Filed) × (dir : FileId) × HasDirectory stamp into old mid dir × EntersNot mid dir)
+
+-- they are entered; or one is refused, and nothing is done
+abbrev pub LeavesEntered : List ℕ → Bor (List ℕ) → Filed → Filed → Type 0
+LeavesEntered stamp into old new = EntersLost stamp into old new ⊎ ((new ≡ old) × EntersNone stamp into old)
+
+-- what `lost` leaves: there is no such file, and nothing is done; or they are entered, or refused
 abbrev pub LeavesLost : Bool → List ℕ → Bor (List ℕ) → Filed → Filed → Type 0
 LeavesLost false stamp into old new = new ≡ old
-LeavesLost true stamp into old new = ((new ≡ old) × HasNoLost old) ⊎ EntersLost stamp into old new
+LeavesLost true stamp into old new = ((new ≡ old) × HasNoLost old) ⊎ LeavesEntered stamp into old new
 
 -- what `free` leaves: blocks that no file held but that were marked as used are free; or it is refused, and nothing is done
 abbrev pub LeavesFree : Bool → Filed → Filed → Type 0
@@ -134,7 +157,7 @@ LeavesFree true old new = ((told : List Finding) × IsFreed old told new) ⊎ ((
 
 -- what the repairs of a sound volume leave, in order
 abbrev pub LeavesSound : Repairs → List ℕ → Bor (List ℕ) → Filed → Filed → Type 0
-LeavesSound kinds stamp into old new = (named : Filed) × (found : Filed) × LeavesNames kinds.names old named × LeavesLost kinds.lost stamp into named found × LeavesFree kinds.free found new
+LeavesSound kinds stamp into old new = (named : Filed) × (freed : Filed) × LeavesNames kinds.names old named × LeavesFree kinds.free named freed × LeavesLost kinds.lost stamp into freed new
 
 -- one of the requested repairs requires a sound volume
 abbrev pub wants_sound : Repairs → Bool
@@ -144,11 +167,6 @@ wants_sound kinds = kinds.names || (kinds.lost || kinds.free)
 abbrev pub IsNotLaidOut : Bor (List ℕ) → MountFault → Stop → Type 0
 IsNotLaidOut path faulty.NoMemory s = s ≡ stop.NoMemory
 IsNotLaidOut path fault s = s ≡ stop.Image path (image_fault.Volume fault None)
-
--- a repair is refused in the middle for this fault: the status says so, or it is out of memory
-abbrev pub IsNotMended : RepairFault → Stop → Type 0
-IsNotMended unmended.NoMemory s = s ≡ stop.NoMemory
-IsNotMended fault s = StopsWith s status.Refused ⊎ (s ≡ stop.NoMemory)
 
 -- the image is sound, and this is what the repairs of a sound volume leave; or a fault of it is known, and nothing is done
 abbrev pub LeavesMounted : Repairs → List ℕ → Bor (List ℕ) → List (List ℕ) → List (List ℕ) → Type 0
@@ -195,10 +213,15 @@ abbrev pub IsWhollyFreed : Bool → Filed → Filed → Type 0
 IsWhollyFreed false old new = new ≡ old
 IsWhollyFreed true old new = (told : List Finding) × IsFreed old told new
 
+-- `names` was made, if it is requested
+abbrev pub IsWhollyCleared : Bool → Filed → Filed → Type 0
+IsWhollyCleared false old new = new ≡ old
+IsWhollyCleared true old new = (found : List Dangling) × IsCleared old found new
+
 -- the requested repairs of a sound volume were made
 abbrev pub IsSoundWhollyMended : Repairs → List ℕ → Bor (List ℕ) → Filed → Filed → Type 0
 IsSoundWhollyMended kinds stamp into old new =
-    (named : Filed) × (found : Filed) × LeavesNames kinds.names old named × LeavesLost kinds.lost stamp into named found × LosesNone kinds.lost found × IsWhollyFreed kinds.free found new
+    (named : Filed) × (freed : Filed) × IsWhollyCleared kinds.names old named × IsWhollyFreed kinds.free named freed × LeavesLost kinds.lost stamp into freed new × LosesNone kinds.lost new
 
 -- the image is sound, and they were made
 abbrev pub IsMountedWhollyMended : Repairs → List ℕ → Bor (List ℕ) → List (List ℕ) → List (List ℕ) → Type 0

@@ -137,8 +137,8 @@ fn say_unseen<R: Eprint>(rt: &R, path: &str, count: u32) {
     }
 }
 
-/// The volume over blocks that its copies share: each of them holds only what it changes.
-fn sharing<'a>(volume: Mounted) -> Result<Mounted, Stop<'a>>
+/// Returns the volume over blocks that its copies share. Each of them holds only what it changes.
+pub(crate) fn sharing<'a>(volume: Mounted) -> Result<Mounted, Stop<'a>>
     ensures ok { IfOk result (λ shared. (shared.image ≡ volume.image) × (shared.layout ≡ volume.layout)) }
     ensures err { IfErr result (λ stop. stop ≡ End.NoMemory) }
 {

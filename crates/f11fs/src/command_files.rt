@@ -1,4 +1,4 @@
-//! Commands in a file of the host, one per line: they run in order on the volume in memory, and then the image is saved, once.
+//! Commands in a file of the host, one per line. They run in order on the volume in memory, and then the image is saved, once.
 ghost use Rattle.std.specs.Prelude.{◌≡◌, ◌≤◌, ◌⊎◌, ◌&&◌, ◌||◌, ℕ, true, false, codes, IfErr, IfOk, IsTrue, IsUtf8, MatchOption, length, not, unwrap_or, vec_len};
 ghost use Rattle.std.specs.{List.list_any, Str.Lines.lines, Str.bytes_eq};
 ghost use Rattle.fs_host.specs.Faults.{is_reason};
@@ -218,7 +218,7 @@ fn obey_lines<R: Host>(
     (status, true)
 }
 
-/// Returns whether a line ends the run: it has changed the volume in part, or the line is refused and the run does not go on after a refusal.
+/// Returns whether a line ends the run. It does if it has changed the volume in part, or if it is refused and the run does not go on after a refusal.
 pub fn ends_run(done: Status, stands: bool, goes_on: bool) -> bool
     ensures { result ≡ (not stands || (is_refused done && not goes_on)) }
 {
@@ -329,8 +329,8 @@ fn obey_words<R: Host>(
     obey_action(rt, filing, run, stamp, &as_outer(own, run.outer), early)
 }
 
-/// Returns the words of a line completed from the words of the run: its user if the line has none, and `--force`, `--json`, `-q` if either has them.
-/// `-n` is taken from the run.
+/// Returns the words of a line completed from the words of the run. It takes their user if it has none, and `--force`, `--json` and `-q` if either
+/// has them. `-n` is taken from the run.
 pub fn as_outer<'a>(own: Words<'a>, outer: &Words<'_>) -> Words<'a>
     ensures { IsAsOuter own.entry outer.now result }
 {

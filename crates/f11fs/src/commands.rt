@@ -24,30 +24,40 @@ pub struct Seen {
 /// Runs the requested command, and returns its exit status.
 pub fn run_command<R: Host>(rt: &R, words: &Words<'_>, seen: Seen) -> Status {
     let mut progress = Progress::begin(rt, shows_progress(words, seen));
-    let done = match words.action {
-        Action::Check { all } => check(
-            rt,
-            words.image,
-            words.blocks,
-            layers_of(words.order),
-            all,
-            words.json,
-        ),
-        Action::Info => info(
-            rt,
-            words.image,
-            words.blocks,
-            layers_of(words.order),
-            words.json,
-            !words.quiet,
-        ),
+    let done = obey_action(rt, words, &mut progress);
+    // Lines about a file are written over the progress. Any other end comes behind it.
+    if let Err(Stop::Lines(_, _)) = &done {
+        let status = say_end(rt, done);
+        progress.end(rt);
+        return status;
+    }
+    progress.end(rt);
+    say_end(rt, done)
+}
+
+/// Does what the words ask for, and returns how it ended.
+fn obey_action<'a, R: Host>(
+    rt: &R,
+    words: &Words<'a>,
+    progress: &mut Progress,
+) -> Result<Status, Stop<'a>> {
+    match words.action {
+        Action::Check { all } => {
+            let layers = layers_of(words.order);
+            check(rt, words.image, words.blocks, layers, all, words.json)
+        }
+        Action::Info => {
+            let layers = layers_of(words.order);
+            let hints = !words.quiet;
+            info(rt, words.image, words.blocks, layers, words.json, hints)
+        }
         Action::Rescue {
             text,
             scan,
             partial,
         } => {
             let layers = layers_of(words.order);
-            rescue(rt, words, layers, text, scan, partial, &mut progress)
+            rescue(rt, words, layers, text, scan, partial, progress)
         }
         Action::Change(change) => change_image(rt, words, change),
         Action::Repair { kinds, into } => repair_image(rt, words, kinds, into),
@@ -57,16 +67,8 @@ pub fn run_command<R: Host>(rt: &R, words: &Words<'_>, seen: Seen) -> Status {
             label,
         } => init_image(rt, words, blocks, files, label),
         Action::Commands { file, keep_going } => obey_file(rt, words, file, keep_going),
-        _ => read_volume(rt, words, &mut progress),
-    };
-    // Lines about a file are written over the progress. Any other end comes behind it.
-    if let Err(Stop::Lines(_, _)) = &done {
-        let status = say_end(rt, done);
-        progress.end(rt);
-        return status;
+        _ => read_volume(rt, words, progress),
     }
-    progress.end(rt);
-    say_end(rt, done)
 }
 
 /// Whether progress is shown: people see standard error, and the words do not ask for quiet. The names that a rescue prints are its

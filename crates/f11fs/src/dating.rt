@@ -1,5 +1,6 @@
 //! The times of new files: the time of the run, or the local time at which a host file or an archive member was changed.
-ghost use Rattle.std.specs.Prelude.{◌≡◌, false, is_some, not};
+ghost use Rattle.std.specs.Prelude.{◌≡◌, ℕ, false, true, is_some, not, IfNone, IfSome};
+ghost use Rattle.fs_host.specs.Times.{IsStampAt};
 ghost use Rattle.f11fs.specs.Dated.{IsHostTime, IsTimeOf, takes_times};
 
 use fs_host::HostZone;
@@ -50,35 +51,49 @@ fn small_time_in(zone: &HostZone, second: u32, run: Stamp) -> Stamp
     }
 }
 
-/// Returns the time of a file that is put from this path of the host: the local time of the last change of the host file, if a zone is given and it
-/// is a plain file; otherwise the time of the run. No contract of std states when a file was changed.
+/// Returns the time of a file that is put from this path of the host. If a zone is given and it is a plain file, it is the local time of its last
+/// change, or `None` if no stamp has that time. Otherwise it is the time of the run. No contract of std states when a file was changed.
 pub fn host_time<R: Files<File = File>>(
     rt: &R,
     zone: &Option<HostZone>,
     path: &str,
     run: Stamp,
-) -> Stamp
-    ensures { IsHostTime (not (is_some zone.now)) run result }
+) -> Option<Stamp>
+    ensures time { IfSome result (IsHostTime (not (is_some zone.now)) run) }
+    ensures none { IfNone result (is_some zone.now ≡ true) }
 {
     match zone {
-        None => run,
+        None => Some(run),
         Some(zone) => host_time_in(rt, zone, path, run),
     }
 }
 
-/// The local time in a zone at which a plain file of the host was changed; else this one.
+/// The local time in a zone at which a plain file of the host was changed; this one if it is not a plain file.
 #[tactic(auto, using(crate::proofs::HostTimes::time_of_host))]
-fn host_time_in<R: Files<File = File>>(rt: &R, zone: &HostZone, path: &str, run: Stamp) -> Stamp
-    ensures { IsHostTime false run result }
+fn host_time_in<R: Files<File = File>>(
+    rt: &R,
+    zone: &HostZone,
+    path: &str,
+    run: Stamp,
+) -> Option<Stamp>
+    ensures { IfSome result (IsHostTime false run) }
 {
     if path == "-" {
-        return run;
+        return Some(run);
     }
     match fs::metadata(rt, path) {
-        Ok(found) if found.is_file() => match u64::try_from(found.mtime()) {
-            Ok(second) => time_in(zone, second, run),
-            Err(_) => run,
-        },
-        _ => run,
+        Ok(found) if found.is_file() => second_in(zone, found.mtime()),
+        _ => Some(run),
     }
+}
+
+/// The local time in a zone at a second since 1970.
+#[tactic(auto, using(crate::proofs::HostTimes::at_some_second))]
+fn second_in(zone: &HostZone, second: i64) -> Option<Stamp>
+    ensures { IfSome result (λ stamp. (n : ℕ) × IsStampAt n stamp) }
+{
+    let Ok(second) = u32::try_from(second) else {
+        return None;
+    };
+    zone.stamp_at(second)
 }

@@ -1,19 +1,19 @@
 //! The repairs of `repair` on the blocks of an image: each requested kind, in order, with a line for each action.
-ghost use Rattle.std.specs.Prelude.{◌≡◌, ◌≢◌, ◌⊎◌, ◌++◌, ◌∷◌, [], ℕ, IfOk, IfSome, MatchOption, OnOk, true};
+ghost use Rattle.std.specs.Prelude.{◌≡◌, ◌≢◌, ◌⊎◌, ◌++◌, ◌∷◌, [], ℕ, IfOk, IfSome, MatchBool, MatchOption, OnOk, true};
 ghost use Rattle.std.specs.List.{All, Contains};
 ghost use Rattle.ods_mount.specs.declared.fault.MountFault.TheVariants.{DuplicateName};
 ghost use Rattle.ods_check.specs.declared.fault_line.FaultLine.TheVariants.{Plain};
 ghost use Rattle.ods_space.specs.Files.{IsLayoutOf};
 ghost use Rattle.ods_repair.specs.{Doubled.HasRenumbered, Wholly.AreRenumberedIn, Wholly.IsAllUsed};
 ghost use Rattle.fs_reads.specs.declared.stop.Stop.{Stop as End};
-ghost use Rattle.f11fs.specs.Mended.{EntersLost, HasDirectory, HasNoLost, IsDirectoryFound, IsDirectoryOf, IsMended, IsMountedWhollyMended, IsNotLaidOut, IsNotMended, IsOneDirectory, IsSoundWhollyMended, IsWhollyFreed, IsWhollyMended, IsWhollyRenumbered, IsWhollyUsed, LeavesDirectories, LeavesDirectory, LeavesDouble, LeavesFree, LeavesLost, LeavesMounted, LeavesNames, LeavesSound, LeavesUsed, LosesNone, Wholly, wants_sound};
+ghost use Rattle.f11fs.specs.Mended.{EntersAll, EntersLost, EntersNone, EntersNot, HasDirectory, HasNoLost, IsDirectoryFound, IsDirectoryOf, IsMended, IsMountedWhollyMended, IsNoDirectoryMade, IsNotLaidOut, IsOneDirectory, IsSoundWhollyMended, IsWhollyCleared, IsWhollyFreed, IsWhollyMended, IsWhollyRenumbered, IsWhollyUsed, LeavesDirectories, LeavesDirectory, LeavesDouble, LeavesEntered, LeavesFree, LeavesLost, LeavesMounted, LeavesNames, LeavesSound, LeavesUsed, LosesNone, Wholly, wants_sound};
 
-use crate::changing::{KEEPER, stop_failed};
+use crate::changing::{KEEPER, sharing};
 use crate::mending_shares::mend_share;
 use crate::repair_lines::{Part, Report, push_free, push_lost, push_names, push_used};
 use fs_reads::{Stop, VolumeFault, stop_about};
 use fs_words::Repairs;
-use ods_base::{FileId, Image};
+use ods_base::{FileId, Image, Uic};
 use ods_check::{Checked, FaultLine, check_all, find_lost};
 use ods_filing::Filing;
 use ods_mount::{MountFault, Mounted, mount, read_layout};
@@ -262,8 +262,24 @@ fn mend_mounted<'a>(
     }
 }
 
-/// The blocks of a volume with the repairs made.
+/// The blocks of a volume with the repairs made. Copies of it, which a refused repair brings back, share its blocks.
 fn mend_volume<'a>(
+    alloc: Global,
+    volume: Mounted,
+    wishes: &Wishes<'a>,
+    report: &mut Report,
+) -> Result<Image, Stop<'a>>
+    ensures leaves { IfOk result (LeavesMounted wishes.now.kinds wishes.now.stamp wishes.now.into volume.image) }
+    ensures whole { IfOk result (λ J. Wholly report.old.is_left report.new.is_left (IsMountedWhollyMended wishes.now.kinds wishes.now.stamp wishes.now.into volume.image J)) }
+{
+    match sharing(volume) {
+        Ok(shared) => mend_shared(alloc, shared, wishes, report),
+        Err(stop) => Err(stop),
+    }
+}
+
+/// The same of a volume whose copies share its blocks.
+fn mend_shared<'a>(
     alloc: Global,
     volume: Mounted,
     wishes: &Wishes<'a>,
@@ -290,11 +306,11 @@ fn mend_sound<'a>(
     ensures whole { OnOk result (Wholly report.old.is_left report.new.is_left (IsSoundWhollyMended wishes.now.kinds wishes.now.stamp wishes.now.into filing.old filing.new)) }
 {
     mend_names(alloc, filing, wishes.kinds.names, report)?;
-    mend_lost(alloc, filing, wishes, report)?;
-    mend_free(alloc, filing, wishes.kinds.free, report)
+    mend_free(alloc, filing, wishes.kinds.free, report)?;
+    mend_lost(alloc, filing, wishes, report)
 }
 
-/// Removes entries that name no file, where that is asked for.
+/// Removes entries that name no file, where that is asked for. Where one is refused, all stay.
 fn mend_names<'a>(
     alloc: Global,
     filing: &mut Filing,
@@ -302,31 +318,36 @@ fn mend_names<'a>(
     report: &mut Report,
 ) -> Result<(), Stop<'a>>
     ensures leaves { OnOk result (LeavesNames wanted filing.old filing.new) }
-    ensures told { report.new.is_left ≡ report.old.is_left }
+    ensures whole { OnOk result (Wholly report.old.is_left report.new.is_left (IsWhollyCleared wanted filing.old filing.new)) }
 {
     if !wanted {
         return Ok(());
     }
+    let user = filing.user();
+    let before = filing.mounted().copy()?;
     match remove_dangling(alloc, filing) {
         Ok(found) => {
             push_names(alloc, &mut report.text, &found)?;
             Ok(())
         }
-        Err(fault) => Err(not_mended(alloc, "names", fault)),
+        Err(RepairFault::NoMemory) => Err(Stop::NoMemory),
+        Err(fault) => {
+            restore(alloc, filing, before, user)?;
+            report.tell_left(alloc, Part::Names, &fault)?;
+            Ok(())
+        }
     }
 }
 
-/// The end of a repair that is refused in the middle.
-fn not_mended<'a>(alloc: Global, kind: &str, fault: RepairFault) -> Stop<'a>
-    ensures { IsNotMended fault result }
+/// Brings a volume back.
+fn restore(alloc: Global, filing: &mut Filing, before: Mounted, user: Uic) -> Result<(), AllocError>
+    ensures { OnOk result (filing.new ≡ record { image = before.image; layout = before.layout; user = user }) }
 {
-    match fault {
-        RepairFault::NoMemory => Stop::NoMemory,
-        fault => stop_about(alloc, kind, fault, Status::Refused),
-    }
+    *filing = Filing::new(alloc, before, user)?;
+    Ok(())
 }
 
-/// Enters lost files in the directory that is said, where that is asked for.
+/// Enters lost files in the directory that is said, where that is asked for. Where one is refused, none is entered.
 fn mend_lost<'a>(
     alloc: Global,
     filing: &mut Filing,
@@ -342,7 +363,27 @@ fn mend_lost<'a>(
     if has_no_lost(alloc, filing)? {
         return Ok(());
     }
-    enter_all(alloc, filing, wishes, report)
+    enter_or_keep(alloc, filing, wishes, report)
+}
+
+/// Enters lost files in the directory that is said. Where one is refused, none is entered.
+fn enter_or_keep<'a>(
+    alloc: Global,
+    filing: &mut Filing,
+    wishes: &Wishes<'a>,
+    report: &mut Report,
+) -> Result<(), Stop<'a>>
+    ensures leaves { OnOk result (LeavesEntered wishes.now.stamp wishes.now.into filing.old filing.new) }
+    ensures whole { OnOk result (Wholly report.old.is_left report.new.is_left (HasNoLost filing.new)) }
+{
+    let user = filing.user();
+    let before = filing.mounted().copy()?;
+    let is_entered = enter_all(alloc, filing, wishes, report)?;
+    if is_entered {
+        return Ok(());
+    }
+    restore(alloc, filing, before, user)?;
+    Ok(())
 }
 
 /// Whether no file is lost.
@@ -356,55 +397,83 @@ fn has_no_lost(alloc: Global, filing: &Filing) -> Result<bool, AllocError>
     }
 }
 
-/// Enters lost files in the directory that is said.
+/// Enters lost files in the directory that is said, and returns whether all are entered. Otherwise it is told.
 fn enter_all<'a>(
     alloc: Global,
     filing: &mut Filing,
     wishes: &Wishes<'a>,
     report: &mut Report,
-) -> Result<(), Stop<'a>>
-    ensures leaves { OnOk result (EntersLost wishes.now.stamp wishes.now.into filing.old filing.new) }
-    ensures whole { OnOk result (Wholly report.old.is_left report.new.is_left (HasNoLost filing.new)) }
+) -> Result<bool, Stop<'a>>
+    ensures leaves { IfOk result (λ all. MatchBool all (EntersLost wishes.now.stamp wishes.now.into filing.old filing.new) (EntersNone wishes.now.stamp wishes.now.into filing.old)) }
+    ensures whole { IfOk result (λ all. MatchBool all (Wholly report.old.is_left report.new.is_left (HasNoLost filing.new)) (report.new.is_left ≡ true)) }
 {
-    let dir = directory_for(alloc, filing, wishes.into, wishes.stamp)?;
+    match directory_for(alloc, filing, wishes, report)? {
+        Some(dir) => enter_in(alloc, filing, dir, wishes, report),
+        None => Ok(false),
+    }
+}
+
+/// Enters lost files in this directory, and returns whether all are entered. Otherwise it is told.
+fn enter_in<'a>(
+    alloc: Global,
+    filing: &mut Filing,
+    dir: FileId,
+    wishes: &Wishes<'a>,
+    report: &mut Report,
+) -> Result<bool, Stop<'a>>
+    ensures leaves { IfOk result (λ all. MatchBool all (EntersAll filing.old dir filing.new) (EntersNot filing.old dir)) }
+    ensures whole { IfOk result (λ all. MatchBool all (Wholly report.old.is_left report.new.is_left (HasNoLost filing.new)) (report.new.is_left ≡ true)) }
+{
     match enter_lost(alloc, filing, dir) {
         Ok(found) => {
             push_lost(&mut report.text, &found, wishes.into)?;
             report.tell_nameless(&find_lost(alloc, &filing.disk())?)?;
-            Ok(())
+            Ok(true)
         }
-        Err(fault) => Err(not_mended(alloc, "lost", fault)),
+        Err(RepairFault::NoMemory) => Err(Stop::NoMemory),
+        Err(fault) => {
+            report.tell_left(alloc, Part::Lost, &fault)?;
+            Ok(false)
+        }
     }
 }
 
-/// The directory of this path, which is made where it is not there.
+/// The directory for lost files, which is made where it is not there. Where it is not made, that is told.
 fn directory_for<'a>(
     alloc: Global,
     filing: &mut Filing,
-    path: &'a str,
-    stamp: Stamp,
-) -> Result<FileId, Stop<'a>>
-    ensures { IfOk result (HasDirectory stamp path.entry filing.old filing.new) }
+    wishes: &Wishes<'a>,
+    report: &mut Report,
+) -> Result<Option<FileId>, Stop<'a>>
+    ensures made { IfOk result (λ made. MatchOption made (IsNoDirectoryMade wishes.now.stamp wishes.now.into filing.old) (HasDirectory wishes.now.stamp wishes.now.into filing.old filing.new)) }
+    ensures told { IfOk result (λ made. MatchOption made (report.new.is_left ≡ true) (λ _. report.new.is_left ≡ report.old.is_left)) }
 {
-    match directory_of(alloc, filing, path) {
-        Ok(dir) => Ok(dir),
-        Err(Stop::Path(_, PathFault::Nothing)) => make_directory(alloc, filing, path, stamp),
+    match directory_of(alloc, filing, wishes.into) {
+        Ok(dir) => Ok(Some(dir)),
+        Err(Stop::Path(_, PathFault::Nothing)) => make_directory(alloc, filing, wishes, report),
         Err(stop) => Err(stop),
     }
 }
 
-/// A new directory of this path.
+/// A new directory for lost files.
 fn make_directory<'a>(
     alloc: Global,
     filing: &mut Filing,
-    path: &'a str,
-    stamp: Stamp,
-) -> Result<FileId, Stop<'a>>
-    ensures { IfOk result (HasDirectory stamp path.entry filing.old filing.new) }
+    wishes: &Wishes<'a>,
+    report: &mut Report,
+) -> Result<Option<FileId>, Stop<'a>>
+    ensures made { IfOk result (λ made. MatchOption made (IsNoDirectoryMade wishes.now.stamp wishes.now.into filing.old) (HasDirectory wishes.now.stamp wishes.now.into filing.old filing.new)) }
+    ensures told { IfOk result (λ made. MatchOption made (report.new.is_left ≡ true) (λ _. report.new.is_left ≡ report.old.is_left)) }
 {
-    match make_directories(alloc, filing, stamp, &[path], 0, None) {
-        Ok(()) => directory_of(alloc, filing, path),
-        Err(failure) => Err(stop_failed(alloc, &failure)),
+    match make_directories(alloc, filing, wishes.stamp, &[wishes.into], 0, None) {
+        Ok(()) => {
+            let dir = directory_of(alloc, filing, wishes.into)?;
+            Ok(Some(dir))
+        }
+        Err(failure) => {
+            report.tell_unmade(alloc, &failure)?;
+            Ok(None)
+        }
     }
 }
 

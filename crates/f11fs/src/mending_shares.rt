@@ -1,4 +1,4 @@
-//! The repairs of `repair share` on the blocks of an image: the runs of a file that share blocks with earlier files get blocks of their own.
+//! The repairs of `repair share` on the blocks of an image. The runs of a file that share blocks with earlier files get blocks of their own.
 ghost use Rattle.std.specs.Prelude.{◌≡◌, ◌≢◌, ◌⊎◌, ◌++◌, ◌∷◌, [], ℕ, IfOk, MatchBool, MatchOption, OnOk, take, true};
 ghost use Rattle.std.specs.List.{All, Contains};
 ghost use Rattle.ods_mount.specs.Faults.{HasBadIndex};

@@ -1,6 +1,6 @@
 //! `put`: files of the host, put into a volume.
-ghost use Rattle.std.specs.Prelude.{◌≡◌, ◌≤◌, ◌⊎◌, ℕ, List, Ok, Some, IfErr, IfOk, OnOk, is_some, slice_get, vec_len};
-ghost use Rattle.f11fs.specs.{Changed.ArePut, Changed.ArePutNext, Changed.IsRefusal, Changed.path_among, Forms.form_said, Forms.placing_for as placing_by, Forms.placing_said, Readings.IsLastPart, Readings.IsTooLarge, Readings.IsUnread, Readings.first_at};
+ghost use Rattle.std.specs.Prelude.{◌≡◌, ◌≤◌, ◌⊎◌, ℕ, List, Ok, Some, IfErr, IfOk, OnOk, is_some, not, slice_get, vec_len};
+ghost use Rattle.f11fs.specs.{Changed.ArePut, Changed.ArePutNext, Changed.IsRefusal, Changed.path_among, Dated.IsHostTime, Forms.form_said, Forms.placing_for as placing_by, Forms.placing_said, Readings.IsLastPart, Readings.IsTooLarge, Readings.IsUnread, Readings.first_at};
 ghost use Rattle.f11fs.specs.declared.early.Taken.{Taken as Read};
 ghost use Rattle.ods_upkeep.specs.HostPut.{IsHostPut};
 
@@ -84,11 +84,47 @@ fn put_each<'a, R: Host>(
     ensures refused { IfErr result IsRefusal }
 {
     for host in hosts {
-        let bytes = host_bytes(rt, *host, room, early)?;
-        putting.set_time(host_time(rt, zone, *host, stamp));
+        let bytes = bytes_to_put(rt, *host, room, early)?;
+        let time = time_to_keep(rt, zone, *host, stamp)?;
+        putting.set_time(time);
         put_one(rt, putting, filing, *host, bytes.as_slice(), quiet)?;
     }
     Ok(())
+}
+
+/// The bytes of a host file that is put. A folder is refused, with the option that puts it.
+#[tactic(auto, using(crate::proofs::Refusals::unread_refusal))]
+fn bytes_to_put<'a, R: Files<File = File> + AllocGlobal>(
+    rt: &R,
+    path: &'a str,
+    room: u64,
+    early: &mut Early,
+) -> Result<Vec<u8>, Stop<'a>>
+    ensures { IfErr result IsRefusal }
+{
+    match host_bytes(rt, path, room, early) {
+        Err(Stop::Word(path, WordFault::Unread(HostFault::IsFolder))) => {
+            Err(Stop::Word(path, WordFault::Folder))
+        }
+        Err(stop) => Err(stop),
+        Ok(bytes) => Ok(bytes),
+    }
+}
+
+/// The time of a host file that is put.
+fn time_to_keep<'a, R: Files<File = File>>(
+    rt: &R,
+    zone: &Option<HostZone>,
+    path: &'a str,
+    run: Stamp,
+) -> Result<Stamp, Stop<'a>>
+    ensures done { IfOk result (IsHostTime (not (is_some zone.now)) run) }
+    ensures refused { IfErr result IsRefusal }
+{
+    match host_time(rt, zone, path, run) {
+        Some(time) => Ok(time),
+        None => Err(Stop::Word(path, WordFault::NoDate)),
+    }
 }
 
 /// The path on the volume: the last word, where there are two or more.

@@ -199,8 +199,12 @@ fn put_file<'a, R: Host>(
         name: path,
         bytes: bytes.as_slice(),
     };
+    let Some(stamp) = host_time(rt, zone, host.as_str(), how.stamp) else {
+        let why = WordFault::NoDate;
+        return Err(stop_about(rt.alloc(), host.as_str(), why, Status::Refused));
+    };
     let form = TreeForm {
-        stamp: host_time(rt, zone, host.as_str(), how.stamp),
+        stamp,
         form: how.form,
         placing: how.placing,
         owner: how.owner,

@@ -7,6 +7,7 @@ use ods_base::{FileId, print_title, print_type};
 use ods_check::{Dangling, Finding};
 use ods_mount::MountFault;
 use ods_repair::{LostFile, RepairFault, Unshared};
+use ods_upkeep::Failure;
 use std::alloc::{AllocError, Global};
 use thiserror::Error;
 
@@ -19,6 +20,12 @@ pub enum Part {
     /// The blocks that `free` marks.
     #[error("free")]
     Free,
+    /// The entries that `names` removes.
+    #[error("names")]
+    Names,
+    /// The files that `lost` enters.
+    #[error("lost")]
+    Lost,
     /// The directory with this file number, in which `double` renumbers one of two entries with one name and version.
     #[error("double: directory {0}")]
     Directory(u16),
@@ -135,6 +142,16 @@ impl Report {
         let about = format!(in alloc; "{part}")?;
         let said = format!(in alloc; "{why}")?;
         writeln!(self.text, "{about}: not done: {said}")
+    }
+
+    /// Reports that lost files are not entered, because their directory is not made.
+    pub fn tell_unmade(&mut self, alloc: Global, failure: &Failure) -> Result<(), AllocError>
+        ensures more { OnOk result (Extends (string_bytes self.old.text) (string_bytes self.new.text)) }
+        ensures left { self.new.is_left ≡ true }
+    {
+        self.is_left = true;
+        let said = format!(in alloc; "{}: {}", failure.path.as_str(), failure.why)?;
+        writeln!(self.text, "lost: not done: {said}")
     }
 
     /// Reports that the repairs of a sound volume are not made, because the image is refused for this fault.

@@ -65,7 +65,7 @@ fn text_of_id(alloc: Global, file: FileId) -> Result<String, AllocError>
     format!(in alloc; "#{number},{sequence}")
 }
 
-/// Returns the text of a plan: a line, or an object, for each path that is in only one of the volumes, or whose file differs; and for each file
+/// Returns the text of a plan. It has a line, or an object, for each path that is in only one of the volumes or whose file differs. So has each file
 /// without a path. The last line is about the label, if it differs.
 pub fn plan_text<'a>(
     alloc: Global,

@@ -1,5 +1,5 @@
-//! A runtime for one command of several: its output is kept until the end of the run, and its faults state the line of the command.
-//! Most methods forward a call. No contract of std states what these calls do, nor what a cell holds.
+//! A runtime for one command of several. Its output is kept until the end of the run, and its faults state the line of the command. Most methods
+//! forward a call. No contract of std states what these calls do, nor what a cell holds.
 ghost use Rattle.std.specs.Prelude.{IfErr};
 ghost use Rattle.fs_host.specs.Reasons.{IsNotKept};
 

@@ -38,7 +38,7 @@ pub enum SaveFault {
     #[error("it already exists")]
     IsThere,
     /// The new file cannot be created.
-    #[error("no new file can be made: {0}")]
+    #[error("no new file .NAME.f11fs-new can be made beside it: {0}")]
     Make(HostFault),
     /// The new file cannot receive the owner or the mode of the image.
     #[error("its owner or mode cannot be kept: {0}")]

@@ -56,6 +56,9 @@ pub enum HostFault {
     /// The host accepts no file with this name.
     #[error("its name is too long or not valid")]
     BadName,
+    /// A name in a folder is not UTF-8 text, so the folder cannot be listed.
+    #[error("a name in it is not UTF-8 text")]
+    NotText,
     /// Symbolic links form a cycle.
     #[error("its symbolic links form a loop")]
     Links,

@@ -10,9 +10,10 @@ ghost use Rattle.fs_host.specs.declared.host_tree.TreeEntry.{TreeEntry as Entry}
 
 use crate::host_fault::HostFault;
 use std::alloc::{AllocError, Global};
-use std::fs;
 use std::fs::{File, Metadata};
+use std::io::ErrorKind;
 use std::rt::Files;
+use std::{fs, io};
 
 /// The kind of a file in a tree.
 #[derive(Clone, Copy, Debug, PartialEq, Eq)]
@@ -45,8 +46,8 @@ struct Pending {
     own: usize,
 }
 
-/// Lists everything in a folder and below it: first each folder itself, then its contents in the order of the names as bytes, and then the folders
-/// in it. Follows links.
+/// Lists everything in a folder and below it. Each folder comes first, then its contents in the order of the names as bytes, and then the folders in
+/// it. Follows links.
 pub fn list_tree<R: Files<File = File> + AllocGlobal + Clone + Drop>(
     rt: &R,
     root: &str,
@@ -170,11 +171,25 @@ fn names_in<R: Files<File = File> + AllocGlobal + Clone + Drop>(
     let path = place_of(rt.alloc(), root, folder)?;
     let mut names = Vec::new(rt.alloc());
     for entry in fs::read_dir(rt, path.as_str())? {
-        let name = String::from_str(rt.alloc(), entry?.file_name())?;
+        let entry = match entry {
+            Ok(entry) => entry,
+            Err(error) => return Err(entry_fault(&error)),
+        };
+        let name = String::from_str(rt.alloc(), entry.file_name())?;
         push(&mut names, name)?;
     }
     names.sort()?;
     Ok(names)
+}
+
+/// Why an entry of a folder cannot be read. std gives names that are UTF-8 text only.
+fn entry_fault(error: &io::Error) -> HostFault
+    ensures { IsTrue (is_reason result) }
+{
+    match error.kind() {
+        ErrorKind::InvalidFilename => HostFault::NotText,
+        _ => HostFault::of(error),
+    }
 }
 
 /// What stands at a path in this folder of a tree. std does not say what the host answers for a path: `kind_said` has the clause of that.

@@ -19,10 +19,13 @@ pub fn stamp_of_now<R: Clock + Env + Files + AllocGlobal + Clone + Drop>(rt: &R)
     stamp_of(HostZone::read(rt).local(now))
 }
 
-/// Returns the stamp of a time.
+/// Returns the stamp of a time. Its year has two digits, so there is none of a time before 1970 or after 2069.
 pub fn stamp_of(time: DateTime) -> Option<Stamp>
     ensures { IfSome result (IsStampOf time) }
 {
+    if time.year() < 1970 || 2069 < time.year() {
+        return None;
+    }
     let month = letters_of(time.month().unsigned_abs())?;
     let year = time.year().rem_euclid(100).unsigned_abs() as u8;
     let day = time.day().unsigned_abs();

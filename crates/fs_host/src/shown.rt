@@ -1,12 +1,12 @@
 //! Host names and words, as messages print them.
-ghost use Rattle.std.specs.Prelude.{Some};
+ghost use Rattle.std.specs.Prelude.{◌≡◌, Some};
 ghost use Rattle.std.specs.Fmt.{WritesOnOk};
-ghost use Rattle.fs_host.specs.Texts.{shown_letter, shown_text};
+ghost use Rattle.fs_host.specs.Texts.{reorders, shown_letter, shown_text};
 
 use std::fmt;
 use std::fmt::{Display, Formatter};
 
-/// A text whose control characters are printed as `\x1b`, so that none reaches a terminal.
+/// A text whose control characters are printed as `\x1b`, so that none reaches a terminal. So are characters that reorder the text after them.
 #[derive(Clone, Copy, Debug)]
 pub struct Shown<'a>(pub &'a str);
 
@@ -28,13 +28,20 @@ fn write_text<W: fmt::Write>(f: &mut Formatter<W>, text: &str) -> fmt::Result
     Ok(())
 }
 
-/// Writes a letter, a control character as its number.
+/// Writes a letter, a control character or one that reorders text as its number.
 fn write_letter<W: fmt::Write>(f: &mut Formatter<W>, letter: char) -> fmt::Result
     ensures { WritesOnOk W.write_str_gives f.old result (shown_letter letter) f.new }
 {
-    if letter.is_control() {
+    if letter.is_control() || reorders(letter) {
         write!(f, "\\x{:02x}", u32::from(letter))
     } else {
         f.write_char(letter)
     }
+}
+
+/// Whether a letter reorders the text after it: a control of Unicode's bidirectional algorithm.
+fn reorders(letter: char) -> bool
+    ensures { result ≡ reorders letter }
+{
+    matches!(u32::from(letter), 1564 | 8206..=8207 | 8234..=8238 | 8294..=8297)
 }

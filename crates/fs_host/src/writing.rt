@@ -17,10 +17,9 @@ use std::fs::File;
 use std::io::ErrorKind;
 use std::rt::Files;
 
-/// Writes an image, and the bytes after it, to a file that does not exist before, with this mode if one is given, and reads it back. After a
-/// failure there is no such file.
-/// `fs_saving` determines the order of the steps, over any host. No contract can state what a host file receives; `tests/fs_faults` checks this on
-/// the built program.
+/// Writes an image, and the bytes after it, to a new file, and reads it back. The file must not exist. It gets this mode if one is given. After a
+/// failure there is no such file. `fs_saving` determines the order of the steps, over any host. No contract can state what a host file receives;
+/// `tests/fs_faults` checks this on the built program.
 #[tactic(auto, using(crate::proofs::MayEnd::stopped_ends_writing))]
 pub fn write_new<R: Files<File = File> + AllocGlobal>(
     rt: &R,

@@ -12,7 +12,7 @@ use Rattle.fs_reads.specs.declared.stop.Stop.TheVariants as stop
 use Rattle.fs_reads.specs.declared.stop.WordFault.{WordFault}
 use Rattle.fs_reads.specs.declared.stop.WordFault.TheVariants as fault
 
--- the status is `Words` for a wrong word, `Refused` for a lack of room or a loss of blocks, and otherwise `Host`
+-- the status is `Words` for a wrong word, `Refused` for a lack of room, a loss of blocks or a date, and otherwise `Host`
 abbrev pub HasWordStatus : WordFault → Status → Type 0
 HasWordStatus fault.NoFolder s = s ≡ status.Words
 HasWordStatus fault.OneDirectory s = s ≡ status.Words
@@ -23,12 +23,14 @@ HasWordStatus fault.NoPath s = s ≡ status.Words
 HasWordStatus (fault.OtherSize bytes) s = s ≡ status.Words
 HasWordStatus (fault.OtherBlocks blocks) s = s ≡ status.Words
 HasWordStatus fault.Short s = s ≡ status.Refused
+HasWordStatus fault.NoDate s = s ≡ status.Refused
 HasWordStatus fault.Lacking s = s ≡ status.Refused
 HasWordStatus (fault.Large size room) s = s ≡ status.Refused
 HasWordStatus (fault.LargeStream room) s = s ≡ status.Refused
 HasWordStatus (fault.Unread why) s = s ≡ status.Host
 HasWordStatus fault.OwnOutput s = s ≡ status.Host
 HasWordStatus fault.NotEmpty s = s ≡ status.Host
+HasWordStatus fault.Folder s = s ≡ status.Host
 HasWordStatus (fault.Unmade why) s = s ≡ status.Host
 HasWordStatus (fault.Unsaved why) s = s ≡ status.Host
 

@@ -109,8 +109,8 @@ pub(crate) fn split_words<'a, 'b>(
     }
 }
 
-/// Returns the destination for the files of `paths` paths: the working folder without a target, standard output for `-`, otherwise a folder or file
-/// of the host. Fails with `NoFolder` if two or more paths go to a target that is not a folder.
+/// Returns the destination for the files of `paths` paths. It is the working folder without a target, standard output for `-`, otherwise a folder or
+/// file of the host. Fails with `NoFolder` if two or more paths go to a target that is not a folder.
 pub(crate) fn choose_destination<'a, R: Files>(
     rt: &R,
     target: Option<&'a str>,

@@ -72,6 +72,12 @@ pub enum WordFault {
     /// The host cannot create this folder.
     #[error("the folder cannot be made: {0}")]
     Unmade(HostFault),
+    /// A folder of the host is put without `-r`.
+    #[error("it is a folder; 'put -r' puts a folder with all that is in it")]
+    Folder,
+    /// No date of a volume is the time at which this file of the host was changed.
+    #[error("-p cannot keep its date: the dates of a volume are from 1970 to 2069")]
+    NoDate,
     /// The image cannot be locked or saved.
     #[error("{0}")]
     Unsaved(SaveFault),
@@ -123,11 +129,13 @@ impl WordFault {
             | WordFault::NoPath => Status::Words,
             WordFault::Short
             | WordFault::Lacking
+            | WordFault::NoDate
             | WordFault::Large(_, _)
             | WordFault::LargeStream(_) => Status::Refused,
             WordFault::Unread(_)
             | WordFault::OwnOutput
             | WordFault::NotEmpty
+            | WordFault::Folder
             | WordFault::Unmade(_)
             | WordFault::Unsaved(_) => Status::Host,
         }

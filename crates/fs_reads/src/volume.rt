@@ -183,7 +183,7 @@ pub(crate) fn not_read<R: Files<File = File> + AllocGlobal>(
     match fault {
         ImageError::ReadFailed => VolumeFault::Read(why),
         ImageError::NoMemory => VolumeFault::NoMemory,
-        refusal => VolumeFault::Image(refusal, look_at(rt, path)),
+        refusal => VolumeFault::Image(refusal, other_look(look_at(rt, path))),
     }
 }
 
@@ -201,6 +201,14 @@ pub(crate) fn look_at<R: Files<File = File> + AllocGlobal>(rt: &R, path: &str) -
     match read_some(rt.alloc(), &mut file.by_ref().take(FRONT), FRONT) {
         Ok(bytes) => looks_like(&bytes, found.len()),
         Err(_) => None,
+    }
+}
+
+/// What a file looks like whose length alone is wrong: nothing, if it has the mark of a volume.
+fn other_look(look: Option<Look>) -> Option<Look> {
+    match look {
+        Some(Look::Home) => None,
+        look => look,
     }
 }
 

@@ -1,4 +1,4 @@
-//! A folder in memory, whose calls can be made to fail: for tests of programs that save, and to show that the trait requires nothing impossible.
+//! A folder in memory whose calls can be made to fail. It is for tests of programs that save, and shows that the trait requires nothing impossible.
 ghost use Rattle.std.specs.Prelude.{◌⊎◌, ℕ, List, Option, ◌≡◌, [], if◌then◌else◌, Some, None, OnOk, OnErr, MatchOption};
 ghost use Rattle.fs_saving.specs.Folder.{OthersStay, OthersLast};
 ghost use Rattle.fs_saving.specs.Memory.{changes_of, failed_in, held, left_by, Holds, HeldOnce};

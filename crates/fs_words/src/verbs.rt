@@ -187,7 +187,7 @@ fn first_named(verbs: &[Verb], word: &str) -> Option<Verb>
     None
 }
 
-/// Returns the command that this word is near to: the name that another program uses for it, or the name that needs the fewest letter changes. At
+/// Returns the command that this word is near to. It is the one that another program calls so, or the one that needs the fewest letter changes. At
 /// most one change counts for a word of up to four letters, otherwise two.
 pub(crate) fn nearest(alloc: Global, word: &str) -> Result<Option<&'static str>, AllocError>
     ensures { IfOk result (λ near. IsNear word.now (value_of near)) }

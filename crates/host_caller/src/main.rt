@@ -1,4 +1,4 @@
-//! An example program over the libraries that changes an image of the host: it lists the master directory, puts a text into it, and saves the image
+//! An example program over the libraries that changes an image of the host. It lists the master directory, puts a text into it, and saves the image
 //! whole or not at all.
 #![tactic(auto)]
 

@@ -12,9 +12,8 @@ use ods_header::{HEADER_POINTERS, Header, Run, extension_block, file_sequence};
 use ods_space::{Disk, Draft};
 use std::alloc::AllocError;
 
-/// Writes new extension headers of the file with this first header: each takes the next 102 of the runs and names
-/// the one behind it, and their segments follow this one. They are written in their order, and what stands in the place
-/// of each is read before it is written.
+/// Writes new extension headers of the file with this first header. Each takes the next 102 runs and names the next one, and their segment numbers
+/// follow this one. They are written in their order, and what stands in the place of each is read before it is written.
 pub(crate) fn write_extensions(
     disk: &Disk<'_>,
     first: &Header,

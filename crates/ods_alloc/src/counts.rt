@@ -5,7 +5,7 @@ use ods_space::{Disk, Draft};
 use std::alloc::{AllocError, Global};
 use std::marker::Model;
 
-/// The number of free blocks that each block of the storage bitmap covers, and the number of clear bits in each block of the index bitmap.
+/// The number of free blocks in each block of the storage bitmap, and of clear bits in each block of the index bitmap.
 #[derive(Drop)]
 pub struct FreeCounts {
     blocks: Vec<u32>,

@@ -12,7 +12,7 @@ use ods_space::{ChainHeaders, Disk, Draft};
 /// The most headers of a chain: a segment number is a byte.
 pub const CHAIN_HEADERS: u32 = 256;
 
-/// The end of a file's chain: the number of its headers, the number of blocks that they map, and the last header with its number and its room.
+/// The end of a file's chain. It has the number of headers, the number of blocks that they map, and the last header with its number and its room.
 #[derive(Clone, Copy)]
 pub struct ChainEnd<'a> {
     /// The number of headers of the chain.

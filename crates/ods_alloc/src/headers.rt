@@ -13,8 +13,8 @@ use ods_header::{Run, grown_last, read_header, room, segment};
 use ods_space::{Disk, Draft};
 use std::alloc::AllocError;
 
-/// Writes the headers of file `number` whose chain grows by these runs: as many as have room stand in its last
-/// header, which is header `end`, and the others in new headers.
+/// Writes the headers of file `number` whose chain grows by these runs. Its last header, which is header `end`, takes as many runs as it has room
+/// for, and new headers take the others.
 pub(crate) fn write_headers(
     disk: &Disk<'_>,
     number: u16,

@@ -104,8 +104,8 @@ pub fn pick_numbers(
     pick_up_to(alloc, disk, counts, last_number(disk.layout), count)
 }
 
-/// Picks the `count` lowest numbers for new headers, ascending: free numbers, and then numbers for which INDEXF.SYS has no block yet, so that it has
-/// to grow. The fault is `HeadersFull` if there are fewer such numbers, and otherwise `NoMemory`.
+/// Picks the `count` lowest numbers for new headers, ascending. Free numbers come first, then numbers for which INDEXF.SYS has no block yet, so that
+/// it has to grow. The fault is `HeadersFull` if there are fewer such numbers, and otherwise `NoMemory`.
 pub fn pick_open_numbers(
     alloc: Global,
     disk: &Disk<'_>,

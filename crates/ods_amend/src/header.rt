@@ -30,8 +30,8 @@ fn access_bytes(owner: Uic, protection: u16, flags: u8) -> [u8; 5]
     ]
 }
 
-/// Returns the block of a header with this owner (H.FOWN), this protection word (H.FPRO) and these characteristics (H.UCHA), each if given, and with
-/// a new checksum. Every other byte is unchanged.
+/// Returns the block of a header with this owner (H.FOWN), protection word (H.FPRO) and characteristics (H.UCHA), each if given. Its checksum is new.
+/// Every other byte is unchanged.
 pub(crate) fn with_access(
     block: &Block,
     user: Option<Uic>,

@@ -1,5 +1,5 @@
-//! Changes of a sound volume that no request makes: another owner, protection or characteristics of a file, another label of the volume, bits of the
-//! storage bitmap.
+//! Changes of a sound volume that no request makes: a file's owner, protection or characteristics, the volume's label, and bits of the storage
+//! bitmap.
 #![tactic(auto)]
 
 mod access;

@@ -3,7 +3,7 @@ use ods_base::{Block, FileId, Name, Pick, Uic};
 use std::alloc::Global;
 use std::sync::Arc;
 
-/// A file in a command: its ID, or `$`, which stands for the last ID in an answer to a Create, a LookUp or a Remove of the session.
+/// A file in a command: its ID, or `$`. `$` stands for the last ID in an answer to a Create, a LookUp or a Remove of the session.
 #[derive(Clone, Copy, PartialEq, Eq, Debug)]
 pub enum Id {
     /// The file with this ID.

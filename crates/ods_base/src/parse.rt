@@ -10,8 +10,8 @@ use ods_text::{place_of, read_small};
 /// The highest version that a file can have.
 pub const LAST_VERSION: u16 = 32_767;
 
-/// Parses a name such as `A.TXT;1`, with the version that it picks: a number, the lowest for `;-1`, or the highest for `;0` or no version. Returns a
-/// `NameFault` if the text is not a valid name.
+/// Parses a name such as `A.TXT;1`, with the version that it picks. That is a number, the lowest for `;-1`, or the highest for `;0` or no version.
+/// Returns a `NameFault` if the text is not a valid name.
 pub fn parse_name(text: &[u8]) -> Result<(Name, Pick), NameFault>
     ensures ok { IfOk result (λ found. Spells text.now found.0 found.1) }
     ensures only { (n : RadName) (pick : Pick) → Spells text.now n pick → result ≡ Ok (n, pick) }

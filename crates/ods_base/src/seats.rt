@@ -45,7 +45,7 @@ pub(crate) fn put_block(
     }
 }
 
-/// The block at this LBN of an image of so many blocks becomes zeros: those of seat 1, where it has no seat of its own.
+/// Makes the block at this LBN of an image of so many blocks zeros. They are those of seat 1 if the block has no seat of its own.
 pub(crate) fn put_zeros(seats: &mut Vec<u32>, own: &mut Vec<Block>, count: u32, at: usize)
     requires inside { at < count }
     requires seat_room { count ≤ vec_capacity seats.old }

@@ -1,4 +1,4 @@
-//! Faults of one file: its chain, its blocks that are marked free or that are locations of a home block, and its names if it is a directory.
+//! Faults of one file: its chain, its blocks that are marked free or are locations of a home block, and the names of a directory.
 ghost use Rattle.std.specs.Prelude.{◌≡◌, ◌⊎◌, ◌+◌, ◌*◌, ℕ, OnOk};
 ghost use Rattle.std.specs.List.{Contains};
 ghost use Rattle.ods_header.specs.Home.{IsHomeAt};

@@ -1,4 +1,4 @@
-//! The input of a repair of blocks that files hold: held blocks that the storage bitmap marks free, and blocks that more than one file holds.
+//! The input of two repairs: blocks of files that the storage bitmap marks free, and blocks that more than one file has.
 ghost use Rattle.std.specs.Prelude.{◌≡◌, ◌*◌, ◌≤◌, ◌++◌, ◌∷◌, ◌⊎◌, ◌↔◌, [], ℕ, true, length, IfOk, MatchBool, OnOk};
 ghost use Rattle.std.specs.{List.Contains, List.Sorted.IsStrictlyIncreasing};
 ghost use Rattle.ods_space.specs.Files.{IsLayoutOf};

@@ -18,10 +18,10 @@ use ods_mount::NumberSet;
 use ods_space::Disk;
 use std::alloc::{AllocError, Global};
 
-/// Adds each pair of files with whole chains that share blocks, and each such file that holds blocks twice, with the first such block and their
-/// number. A file is compared with the earlier files that are noted for one of its blocks. When the kept lines are full, no file is compared. Then
-/// a file that shares a block with an earlier file is added to `others`. So this takes one walk over all chains, and one along the chain of a file
-/// for each line.
+/// Adds each pair of files with whole chains that share blocks, and each such file that has a block twice. A line has the first such block and their
+/// number. A file is compared with the earlier files that are noted for one of its blocks. When the kept lines are full, no file is compared. Then a
+/// file that shares a block with an earlier file is added to `others`. So this takes one walk over all chains, and one along the chain of a file for
+/// each line.
 pub(crate) fn push_shared(
     alloc: Global,
     disk: &Disk<'_>,

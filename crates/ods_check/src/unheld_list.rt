@@ -17,7 +17,7 @@ use ods_mount::NumberSet;
 use ods_space::{Disk, header_block, in_use};
 use std::alloc::{AllocError, Global};
 
-/// Returns the LBNs of the blocks that are marked used, that no file holds, and that are not locations of a home block, in ascending order.
+/// Returns the LBNs of the blocks that are marked used and that no file has, ascending. Locations of a home block are not among them.
 pub fn find_unheld_blocks(alloc: Global, disk: &Disk<'_>) -> Result<Vec<u32>, AllocError>
     requires { on IsLayoutOf disk.now }
     ensures { IfOk result (λ blocks. (b : ℕ) → Contains blocks.items b ↔ on IsHeldByNone disk.now b) }

@@ -1,5 +1,5 @@
-//! The first bytes of some blocks of an image, in order, with zeros for the blocks past it: written to a writer in pieces of 64 KiB, or appended in
-//! memory.
+//! The first bytes of some blocks of an image, in order, with zeros for blocks after its end. They are written to a writer in pieces of 64 KiB, or
+//! appended in memory.
 ghost use Rattle.std.specs.Prelude.{◌≡◌, ◌+◌, ◌*◌, ◌^◌, ◌<◌, ◌≤◌, ◌++◌, ℕ, List, Option, length, take, OnOk, IfOk, IfErr};
 ghost use Rattle.std.specs.Io.KnownBytes.{Appends};
 ghost use Rattle.ods_base.specs.{Block.zeros as zeros_are, Image.image_bytes, Image.TookBytes};

@@ -39,8 +39,8 @@ pub enum InitFault {
     NoMemory,
 }
 
-/// Returns the default of [`NewVolume::files`] for a volume of `blocks` blocks: one file for each 16 blocks, and at most 26,089, the limit of one
-/// header for INDEXF.SYS. The structures then fit into each volume of 40 to 1,048,576 blocks.
+/// Returns the default of [`NewVolume::files`] for a volume of `blocks` blocks. It is one file for each 16 blocks, and at most 26,089, the limit of
+/// one header for INDEXF.SYS. The structures then fit into each volume of 40 to 1,048,576 blocks.
 pub fn default_files(blocks: u32) -> u32
     ensures default { result ≡ default_of blocks }
     ensures room { 40 ≤ blocks → blocks ≤ 2 ^ 20 → HasRoom blocks result }

@@ -10,7 +10,7 @@ use ods_base::{Block, FileId, Uic};
 use ods_request::{Refusal, Right};
 use ods_space::Disk;
 
-/// The block of a file with this virtual block number, counted from 1, where it stands in the image, or the first fault of reading it.
+/// The block of a file with this virtual block number, counted from 1, in the image, or the first fault of reading it.
 pub(crate) fn shown_block<'a>(
     disk: &Disk<'a>,
     who: Uic,

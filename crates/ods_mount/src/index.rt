@@ -8,8 +8,8 @@ use crate::MountFault;
 use crate::places::check_free_places;
 use ods_space::{Disk, Layout};
 
-/// Checks that INDEXF.SYS maps the index bitmap, headers 1 to 16 and the home block, and that no lower LBN of a home block is free. Otherwise the
-/// fault is BadIndex, which holds for the image.
+/// Checks that INDEXF.SYS maps the index bitmap, headers 1 to 16 and the home block. No lower LBN of a home block may be free. Otherwise the fault is
+/// BadIndex, which holds for the image.
 pub fn check_index(disk: &Disk<'_>, home_lbn: u32) -> Result<(), MountFault>
     requires { IsHomeAt disk.now.image.now home_lbn }
     ensures ok { OnOk result (IsWellIndexed disk.now.layout.now home_lbn × on NoPlaceIsFree disk.now home_lbn) }

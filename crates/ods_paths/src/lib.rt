@@ -1,5 +1,4 @@
-//! Paths and patterns of Files-11 volumes: the meaning of a path, the names that a pattern matches, the order of a listing, and the picked
-//! versions.
+//! Paths and patterns of Files-11 volumes: what a path means, the names that a pattern matches, the order of a listing, and the picked versions.
 #![tactic(auto)]
 
 mod bad;

@@ -33,7 +33,7 @@ impl Survey {
         }
     }
 
-    /// Returns whether the records of a file with these attributes are extracted as lines without an option: each is a line again, and they have
+    /// Returns whether the records of a file with these attributes are extracted as lines without an option. Each is a line again, and they have
     /// carriage control or can be printed.
     pub fn come_as_lines(&self, attributes: &[u8; 32]) -> bool
         ensures { result ≡ (self.now.lines && (controlled attributes.now || self.now.printable)) }

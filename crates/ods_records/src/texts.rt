@@ -21,7 +21,7 @@ pub(crate) fn may_stand(byte: u8) -> bool
     matches!(byte, 7..=13 | 27 | 32..=126)
 }
 
-/// Returns whether a text that is written as records is read unchanged: it is empty or ends with LF, no CR is directly before an LF, and no line has
+/// Returns whether a text that is written as records is read unchanged. It is empty or ends with LF, no CR is directly before an LF, and no line has
 /// more than 32,767 bytes.
 pub fn is_plain_text(text: &[u8]) -> bool
     ensures { IsTrue result ↔ IsPlainText text.now }

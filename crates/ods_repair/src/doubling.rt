@@ -19,7 +19,7 @@ use ods_mount::FileBlocks;
 use ods_space::{Disk, Layout};
 use std::alloc::{AllocError, Global};
 
-/// Gives each entry of a directory with the name, type and version of an earlier entry the next version of that name: one more than the highest.
+/// Gives an entry of a directory the next version if an earlier entry has its name, type and version. The next version is one more than the highest.
 /// The image may be one that a mount refuses. The repair is refused if:
 ///
 /// - the directory has no whole chain, or an entry is not a valid name;

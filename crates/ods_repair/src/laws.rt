@@ -11,8 +11,8 @@ pub fn mended_lines_are_sound()
     ensures { MendedLinesAreSound }
 {}
 
-/// Proves that the results of a mount and a check of an image depend only on its tables: the locations of home blocks, INDEXF.SYS, BITMAP.SYS and
-/// directories.
+/// Proves that the results of a mount and a check of an image depend only on its tables. These are the locations of home blocks, INDEXF.SYS,
+/// BITMAP.SYS and directories.
 pub fn tables_say_all()
     ensures { TablesSayAll }
 {}

@@ -1,4 +1,4 @@
-//! The move of one run of a file to blocks of its own: its bytes, the bits of the new blocks, and the pointer that names it.
+//! The move of one run of a file to blocks of its own. It changes their bytes, the bits of the new blocks, and the pointer that names the run.
 ghost use Rattle.std.specs.Prelude.{◌≡◌, ◌≢◌, ℕ, ◌+◌, ◌/◌, ◌<◌, ◌≤◌, false, length, true};
 ghost use Rattle.std.specs.List.{All, range_with_len};
 ghost use Rattle.ods_header.specs.Header.{used_words_of};
@@ -13,8 +13,8 @@ use ods_base::Image;
 use ods_header::pointer_at;
 use ods_space::Layout;
 
-/// Points retrieval pointer `at` of the first header of this file, counted from 0, to the blocks from LBN `to` on, as many as it names. These
-/// blocks receive the bytes of the old ones and are marked used.
+/// Points retrieval pointer `at` of the first header of this file to the blocks from LBN `to` on. Pointers are counted from 0; its block count stays.
+/// These blocks receive the bytes of the old ones and are marked used.
 pub(crate) fn move_run(image: &mut Image, layout: &Layout, file: u16, at: usize, to: u32)
     requires can { CanMove image.old layout.now file }
     requires inside { at < used_words_of (header_at image.old layout.now file) / 2 }

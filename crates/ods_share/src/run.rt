@@ -127,7 +127,7 @@ fn run_desk<K: Keep + Send, J: Naming + Send + Sync, G: Gate + Sync, R: Threads 
     run_counted::<K, J, Brand, G, R>(rt, alloc, desk, viewers, blank, scripts, stamp, gate)
 }
 
-/// Runs each of at most [`MOST_SESSIONS`] scripts as a session in a thread of its own, the first as session 1 and with the first viewer. It waits for
+/// Runs each of at most [`MOST_SESSIONS`] scripts as a session in a thread of its own. The first is session 1 and has the first viewer. It waits for
 /// all sessions, and returns the volume with the outcome of each script, in the order of the scripts. New files have this stamp. After a fault, of
 /// memory or of threads, all threads have ended too, and the volume is dropped.
 ///

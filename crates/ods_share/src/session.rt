@@ -19,7 +19,8 @@ use std::sync::{Mutex, MutexGuard, Wait};
 /// How often a desk that is in use is tried before its lock is waited for, which is a sleep as soon as another session sleeps.
 const TRIES: u32 = 50;
 
-/// A session with its number, from 1, at a desk: its runtime, the gate, the allocator of its results, and the stamp of the files that it makes.
+/// A session with its number, from 1, at a desk. It has its runtime, the gate, the allocator of its results, and the stamp of the files that it
+/// makes.
 #[derive(Drop)]
 pub(crate) struct Session<'a, J: Naming, L: Ledger, G: Gate, R: Wait> {
     pub(crate) rt: &'a R,

@@ -19,7 +19,8 @@ use std::sync::{Mutex, Wait};
 use std::thread;
 use std::thread::{Promise, PromisedHandle, Scope, Threads};
 
-/// The promise that the result of a thread is the result of this script, at a desk of this name, with a viewer that had seen the same list.
+/// The promise that the result of a thread is the result of this script. The session is at a desk of this name, with a viewer that had seen the same
+/// list.
 #[derive(Drop)]
 pub(crate) struct OfScript<J: Naming, K> {
     viewer: Snapshot<Viewer<J>>,

@@ -22,8 +22,8 @@ pub enum Rescued<'a> {
     Whole(FileId, String, Contents<'a>),
 }
 
-/// Returns the contents of the file with this number: its bytes up to the end of file if that is in its blocks, otherwise of all blocks. With
-/// `text`, returns the lines of its records if they are whole.
+/// Returns the contents of the file with this number. These are its bytes up to the end of file if that is in its blocks, otherwise all its blocks.
+/// With `text`, returns the lines of its records if they are whole.
 pub fn open_rescued<'a>(
     alloc: Global,
     disk: &Disk<'a>,

@@ -59,9 +59,9 @@ pub fn name_at(alloc: Global, image: &Image, first: u32) -> Result<Option<Header
     }))
 }
 
-/// Returns the contents of the file of the first header at this LBN: its bytes up to the end of file if that is in its blocks, otherwise of all
-/// blocks. With `text`, returns the lines of its records if they are whole. If a header or a block is missing, returns the present part only with
-/// `partial`.
+/// Returns the contents of the file of the first header at this LBN. These are its bytes up to the end of file if that is in its blocks, otherwise
+/// all its blocks. With `text`, returns the lines of its records if they are whole. If a header or a block is missing, returns the present part only
+/// with `partial`.
 pub fn open_scanned<'a>(
     alloc: Global,
     image: &'a Image,
@@ -111,7 +111,7 @@ fn keep_part<'a>(
     Ok(Some(rescued_contents(alloc, body, text)?))
 }
 
-/// Returns whether the header at the LBN with index `at` has the number of the header at the previous or the next LBN of the list.
+/// Returns whether the header at LBN `at` of the list has the number of the header before it or after it in the list.
 pub fn has_its_number_beside(image: &Image, lbns: &[u32], at: usize) -> bool
     requires { at < length lbns.now }
     ensures { IsTrue result ↔ HasItsNumberBeside image.now lbns.now at }

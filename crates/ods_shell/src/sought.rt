@@ -1,4 +1,4 @@
-//! The words by which entries are skipped before their texts are made: the words of a name and a type in a path without a wildcard.
+//! The words by which entries are skipped before their texts are made. They are the name and type in a path without a wildcard.
 ghost use Rattle.std.specs.Prelude.{◌≡◌, ◌++◌, false, IfOk, MatchBool, MatchOption, OnOk};
 ghost use Rattle.ods_base.specs.Name.{RadName, Spells, title as title_of, type_text};
 ghost use Rattle.ods_base.specs.declared.name.Pick.TheVariants as Picked;
@@ -11,7 +11,7 @@ use ods_base::{Name, parse_name};
 use ods_paths::{Files, has_wildcard};
 use std::alloc::{AllocError, Global};
 
-/// Returns a name with the words of each title that the pattern matches; `None` if the pattern has a wildcard, or is not a valid title.
+/// Returns a name with the words of each title that the pattern matches. It is `None` if the pattern has a wildcard, or is not a valid title.
 pub(crate) fn sought_title(alloc: Global, pattern: &[u8]) -> Result<Option<Name>, AllocError>
     ensures { IfOk result (HasTitle (capitals pattern.now)) }
 {
@@ -21,7 +21,7 @@ pub(crate) fn sought_title(alloc: Global, pattern: &[u8]) -> Result<Option<Name>
     Ok(spelled(&text))
 }
 
-/// Returns a name with the type of each type that the pattern matches; `None` if the pattern has a wildcard, or is not a valid type.
+/// Returns a name with the type of each type that the pattern matches. It is `None` if the pattern has a wildcard, or is not a valid type.
 pub(crate) fn sought_type(alloc: Global, pattern: &[u8]) -> Result<Option<Name>, AllocError>
     ensures { IfOk result (HasType (capitals pattern.now)) }
 {

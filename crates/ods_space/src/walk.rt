@@ -108,7 +108,7 @@ pub(crate) fn segment_block<'a>(
     }
 }
 
-/// The block of the next header, where this one names it by its sequence number on this volume and it is this segment of the chain.
+/// The block of the next header, if this one names it by its sequence number and it is this segment of the chain.
 pub(crate) fn next_block<'a>(
     image: &'a Image,
     home: &Home,

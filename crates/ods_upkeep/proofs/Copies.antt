@@ -1,5 +1,5 @@
 -- Files that are copied, one after another.
-use Rattle.std.proofs.Common.{◌≡◌, ◌+◌, ◌<◌, ◌≤◌, refl, sym, subst, ℕ, List, [], length, get_or, drop, Some, inl, inr, arith}
+use Rattle.std.proofs.Common.{◌≡◌, ◌+◌, ◌<◌, ◌≤◌, refl, sym, subst, ℕ, List, [], length, get_or, drop, Some, None, inl, inr, arith}
 use Rattle.std.specs.String.{string_bytes}
 use Rattle.std.proofs.lemmas.List.Elements.{All-contains}
 use Rattle.ods_base.specs.Name.{RadName}
@@ -15,18 +15,21 @@ use Rattle.ods_files.specs.Body.{Body, HasBody, IsFileFault, bytes_in}
 use Rattle.ods_files.specs.declared.fault.FileFault.{FileFault}
 use Rattle.ods_files.specs.declared.fault.FileFault.TheVariants.{NoSuchFile, Chain}
 use Rattle.ods_files.specs.declared.form.Form.TheVariants.{Raw}
+use Rattle.ods_filing.specs.Amended.{HasGiven, IsWhyNotGiven}
 use Rattle.ods_filing.specs.Filed.{Filed}
+use Rattle.ods_request.specs.declared.refusals.Refusal.{Refusal}
 use Rattle.ods_shell.specs.declared.facts.Facts.{Facts}
 use Rattle.ods_shell.specs.declared.found.Found.{Found}
 use Rattle.ods_upkeep.specs.Copied.{AreCopied, IsCopied, IsCopyMade, IsCopyable, IsUncopyable, IsUnread, true_for, why_unread}
 use Rattle.ods_upkeep.specs.Looked.{IsNextVersion}
 use Rattle.ods_upkeep.specs.PutFor.{IsMadeFor}
 use Rattle.ods_upkeep.specs.Refused.{HasPath}
-use Rattle.ods_upkeep.specs.Uncopied.{IsCopyUnmade, IsFirstUncopyable, IsNotCopied, MayAllBeCopied, MayBeCopied, StopsCopying, uncopyable, unfiled, unmade}
+use Rattle.ods_upkeep.specs.Uncopied.{IsCopyUnmade, IsFirstUncopyable, IsNotCopied, MayAllBeCopied, MayBeCopied, StopsCopying, not_given, uncopyable, unfiled, unmade}
 use Rattle.ods_upkeep.specs.Unfiled.{IsUnfiled}
 use Rattle.ods_upkeep.specs.declared.asked.Placing.{Placing}
 use Rattle.ods_upkeep.specs.declared.failure.Failure.{Failure}
 use Rattle.ods_upkeep.specs.declared.failure.Why.{Why}
+use Rattle.ods_upkeep.specs.declared.failure.Why.TheVariants.{Request}
 use Rattle.ods_upkeep.specs.declared.target.Target.{Target}
 use Rattle.ods_upkeep.proofs.Stopping.{left_from}
 
@@ -48,17 +51,27 @@ unread I L n (Chain BadChain) told = inr (refl, λ body has. not_bad I L n body 
 unread I L n (Chain (OutsideVolume lbn)) told = inr (refl, λ body has. not_past I L n lbn body told.1 has)
 unread I L n (Chain NoMemory) told = inl refl
 
+-- the user makes it
+own_copy : (placing : Placing) (to : Target) (name : RadName) (stamp : List ℕ) (facts : Facts) (old mid filed : Filed) (user : Uic) (attributes bytes : List ℕ) (version : ℕ) (file : FileId)
+    → user ≡ old.user → attributes ≡ true_for facts.attributes facts.blocks → IsMadeFor placing user to.directory to.version (record { name = name; version = version; stamp = stamp }) attributes bytes file mid filed
+    → IsMadeFor placing old.user to.directory to.version (record { name = name; version = version; stamp = stamp }) (true_for facts.attributes facts.blocks) bytes file mid filed
+own_copy placing to name stamp facts old mid filed user attributes bytes version file is are made =
+    subst (λ u. IsMadeFor placing u to.directory to.version (record { name = name; version = version; stamp = stamp }) (true_for facts.attributes facts.blocks) bytes file mid filed) is
+    (subst (λ a. IsMadeFor placing user to.directory to.version (record { name = name; version = version; stamp = stamp }) a bytes file mid filed) are made)
+
 -- a copy is made
-pub copy_made : (placing : Placing) (to : Target) (name : RadName) (stamp : List ℕ) (facts : Facts) (old mid new : Filed) (user : Uic) (attributes bytes : List ℕ) (version : ℕ) (file : FileId)
+pub copy_made : (placing : Placing) (to : Target) (name : RadName) (stamp : List ℕ) (facts : Facts) (old mid filed new : Filed) (user : Uic) (attributes bytes : List ℕ) (version : ℕ) (file : FileId)
     → user ≡ old.user → attributes ≡ true_for facts.attributes facts.blocks → IsNextVersion old to.directory name to.version version mid
-    → IsMadeFor placing user to.directory to.version (record { name = name; version = version; stamp = stamp }) attributes bytes file mid new → IsCopyMade placing to name stamp facts bytes old new
-copy_made placing to name stamp facts old mid new user attributes bytes version file is are next made = record {
+    → IsMadeFor placing user to.directory to.version (record { name = name; version = version; stamp = stamp }) attributes bytes file mid filed
+    → HasGiven filed file None (Some facts.protection) new → IsCopyMade placing to name stamp facts bytes old new
+copy_made placing to name stamp facts old mid filed new user attributes bytes version file is are next made given = record {
   version = version;
   mid = mid;
   next = next;
   file = file;
-  made = subst (λ u. IsMadeFor placing u to.directory to.version (record { name = name; version = version; stamp = stamp }) (true_for facts.attributes facts.blocks) bytes file mid new) is
-      (subst (λ a. IsMadeFor placing user to.directory to.version (record { name = name; version = version; stamp = stamp }) a bytes file mid new) are made);
+  filed = filed;
+  made = own_copy placing to name stamp facts old mid filed user attributes bytes version file is are made;
+  given = given;
 }
 
 -- and none is
@@ -68,6 +81,15 @@ pub copy_unmade : (why : Why) (placing : Placing) (to : Target) (name : RadName)
 copy_unmade why placing to name stamp facts old mid new user attributes bytes version is are next refused =
     unfiled why version mid next (subst (λ u. IsUnfiled placing u to.directory to.version (record { name = name; version = version; stamp = stamp }) (true_for facts.attributes facts.blocks) bytes mid new why) is
     (subst (λ a. IsUnfiled placing user to.directory to.version (record { name = name; version = version; stamp = stamp }) a bytes mid new why) are refused))
+
+-- or it is, and does not receive the protection
+pub copy_not_given : (placing : Placing) (to : Target) (name : RadName) (stamp : List ℕ) (facts : Facts) (old mid filed new : Filed) (user : Uic) (attributes bytes : List ℕ) (version : ℕ) (file : FileId) (reason : Refusal)
+    → user ≡ old.user → attributes ≡ true_for facts.attributes facts.blocks → IsNextVersion old to.directory name to.version version mid
+    → IsMadeFor placing user to.directory to.version (record { name = name; version = version; stamp = stamp }) attributes bytes file mid filed → IsWhyNotGiven filed file reason → new ≡ filed
+    → IsCopyUnmade placing to name stamp facts bytes old new (Request reason)
+copy_not_given placing to name stamp facts old mid filed new user attributes bytes version file reason is are next made why stays =
+    subst (λ f. IsCopyUnmade placing to name stamp facts bytes old f (Request reason)) (sym stays)
+    (not_given reason version mid file next (own_copy placing to name stamp facts old mid filed user attributes bytes version file is are made) why)
 
 -- a file is copied
 pub is_copied : (placing : Placing) (to : Target) (stamp : List ℕ) (found : Found) (old new : Filed) (user : Uic) (facts : Facts) (name : RadName) (bytes lent : List ℕ)

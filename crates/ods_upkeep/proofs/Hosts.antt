@@ -1,16 +1,22 @@
 -- A host file that gets no name, or is not put.
-use Rattle.std.proofs.Common.{◌≡◌, refl, sym, subst, ℕ, Bool, List, Option, None}
+use Rattle.std.proofs.Common.{◌≡◌, refl, sym, subst, ℕ, Bool, true, List, Option, None}
 use Rattle.ods_base.specs.Name.{RadName}
+use Rattle.ods_base.specs.declared.file_id.FileId.{FileId}
+use Rattle.ods_space.specs.Layout.{VolumeLayout}
 use Rattle.ods_records.specs.declared.near.NearText.{NearText}
 use Rattle.ods_paths.specs.Patterns.{capitals}
 use Rattle.ods_filing.specs.Filed.{Filed}
+use Rattle.ods_upkeep.specs.Before.{IsBefore}
 use Rattle.ods_upkeep.specs.HostNames.{IsNoName, IsTyped, IsUntyped, title_of, type_of}
-use Rattle.ods_upkeep.specs.Left.{InPut}
+use Rattle.ods_upkeep.specs.HostPut.{IsFormFor, IsFormOf}
+use Rattle.ods_upkeep.specs.Kept.{IsKept}
+use Rattle.ods_upkeep.specs.Left.{InPut, replaced_version}
 use Rattle.ods_upkeep.specs.Refused.{no_memory}
 use Rattle.ods_upkeep.specs.Remarks.{AreSeen, IsRemarkOn}
 use Rattle.ods_upkeep.specs.Target.{IsNoName as SpellsNone}
-use Rattle.ods_upkeep.specs.Unput.{IsNoHostName, IsNotPut, IsNotStored, MayBeCalled, no_name, unremarked, unspelled, unstored, untyped}
+use Rattle.ods_upkeep.specs.Unput.{IsNoHostName, IsNotPut, IsNotStored, MayBeCalled, no_name, unread, unremarked, unspelled, unstored, untyped}
 use Rattle.ods_upkeep.specs.Written.{IsWritten}
+use Rattle.ods_upkeep.specs.declared.asked.PutForm.{PutForm}
 use Rattle.ods_upkeep.specs.declared.failure.Why.{Why}
 use Rattle.ods_upkeep.specs.declared.failure.Why.TheVariants.{BadName, Put}
 use Rattle.ods_upkeep.specs.declared.put_fault.PutFault.TheVariants.{Untyped}
@@ -40,13 +46,29 @@ pub not_put_of : (why : Why) {p q : InPut} (host bytes : List ℕ) (old new : Fi
 not_put_of why host bytes old new same none = subst (λ v. IsNotPut v host bytes old new why) same none
 
 -- something is to be remarked, and there is no memory for it
-pub remark_fails : (why : Why) (p : InPut) (host bytes : List ℕ) (f : Filed) (name : RadName) (attributes stored : List ℕ) (completed : Bool) (near : Option NearText) → MayBeCalled p host name → IsWritten p.form p.like bytes attributes stored
-    → AreSeen p.form p.like bytes completed near → (why ≡ no_memory) × ¬ IsRemarkOn completed near None → IsNotPut p host bytes f f why
-remark_fails why p host bytes f name attributes stored completed near may written seen none =
-    subst (IsNotPut p host bytes f f) (sym none.0) (unremarked name attributes stored completed near may written seen none.1 refl)
+pub remark_fails : (why : Why) (p : InPut) (host bytes : List ℕ) (f : Filed) (name : RadName) (chosen : PutForm) (own : Option (List ℕ)) (attributes stored : List ℕ) (completed : Bool) (near : Option NearText) → MayBeCalled p host name
+    → IsFormOf p name bytes f chosen own → IsWritten chosen own bytes attributes stored → AreSeen chosen own bytes completed near → (why ≡ no_memory) × ¬ IsRemarkOn completed near None → IsNotPut p host bytes f f why
+remark_fails why p host bytes f name chosen own attributes stored completed near may formed written seen none =
+    subst (IsNotPut p host bytes f f) (sym none.0) (unremarked name chosen own attributes stored completed near may formed written seen none.1 refl)
+
+-- the names of the directory are not read
+pub form_fails : (why : Why) (p : InPut) (host bytes : List ℕ) (f : Filed) (name : RadName) → MayBeCalled p host name → (why ≡ no_memory) × (p.keeps ≡ true) → IsNotPut p host bytes f f why
+form_fails why p host bytes f name may none = subst (IsNotPut p host bytes f f) (sym none.0) (unread name may none.1 refl)
 
 -- what is written is not put under the name
-pub store_fails : (why : Why) {p q : InPut} (host bytes : List ℕ) (old new : Filed) (name : RadName) (attributes stored : List ℕ) → p ≡ q → MayBeCalled p host name → IsWritten p.form p.like bytes attributes stored
-    → IsNotStored q name attributes stored old new why → IsNotPut q host bytes old new why
-store_fails why host bytes old new name attributes stored same may written none =
-    unstored why name attributes stored (subst (λ v. MayBeCalled v host name) same may) (subst (λ (v : InPut). IsWritten v.form v.like bytes attributes stored) same written) none
+pub store_fails : (why : Why) {p q : InPut} (host bytes : List ℕ) (old new : Filed) (name : RadName) (chosen : PutForm) (own : Option (List ℕ)) (attributes stored : List ℕ) → p ≡ q → MayBeCalled p host name
+    → IsFormOf p name bytes old chosen own → IsWritten chosen own bytes attributes stored → IsNotStored q name attributes stored old new why → IsNotPut q host bytes old new why
+store_fails why host bytes old new name chosen own attributes stored same may formed written none =
+    unstored why name chosen own attributes stored (subst (λ v. MayBeCalled v host name) same may) (subst (λ (v : InPut). IsFormOf v name bytes old chosen own) same formed) written none
+
+-- the form is that after the version before, as the blocks show it
+pub form_kept : (keeps : Bool) (form : PutForm) (like : Option (List ℕ)) (dir : FileId) (name : RadName) (names : Option (List ℕ)) (said picked : Option ℕ) (bytes : List ℕ) (f : Filed) (I : List (List ℕ)) (L : VolumeLayout)
+    (before : Option (List ℕ)) (chosen : PutForm) (own : Option (List ℕ)) → keeps ≡ true → I ≡ f.image → L ≡ f.layout → picked ≡ replaced_version names said → IsBefore I L dir.number name picked before → IsKept before bytes chosen own
+    → IsFormFor keeps form like dir name names said bytes f chosen own
+form_kept keeps form like dir name names said picked bytes f I L before chosen own is image layout picks found kept =
+    subst (λ (b : Bool). IsFormFor b form like dir name names said bytes f chosen own) (sym is) (
+      before,
+      subst (λ (J : List (List ℕ)). IsBefore J f.layout dir.number name (replaced_version names said) before) image
+          (subst (λ (M : VolumeLayout). IsBefore I M dir.number name (replaced_version names said) before) layout (subst (λ (o : Option ℕ). IsBefore I L dir.number name o before) picks found)),
+      kept,
+    )

@@ -2,6 +2,7 @@
 use Rattle.std.proofs.Common.{◌≡◌, ℕ, suc, refl, sym, ap, ◌∙◌, subst, true, List, [], ◌∷◌, ◌++◌, length, Option, Some, None, inl, inr}
 use Rattle.std.specs.Prelude.{not, reverse}
 use Rattle.std.specs.Borrow.{Bor}
+use Rattle.std.specs.FinMap as finmap
 use Rattle.std.specs.List.{All}
 use Rattle.std.proofs.lemmas.List.{reverse-append}
 use Rattle.std.proofs.lemmas.Option.{same_Some}
@@ -40,7 +41,7 @@ use Rattle.ods_upkeep.specs.declared.asked.CopyFrom.{CopyFrom}
 use Rattle.ods_upkeep.specs.declared.target.Target.{Target}
 use Rattle.ods_files.proofs.HeaderSizes.{blocks_sized}
 use Rattle.ods_upkeep.proofs.LawsCompared.{AreSized, attributes_sized, blocks_again, same_bytes, true_same}
-use Rattle.ods_upkeep.proofs.LawsKept.{IsAllLeft, entry_too, leaves_all, left_made, left_next, left_next_version, left_ready, left_same, made_left, shown_too}
+use Rattle.ods_upkeep.proofs.LawsKept.{IsAllLeft, entry_too, given_left, IsGivenLeft, leaves_all, left_next, left_next_version, left_ready, left_same, shown_too}
 use Rattle.ods_upkeep.proofs.LawsShown.{plain_is, shown_body}
 
 -- What is known of a file with a whole chain: its attributes, and how many blocks it has.
@@ -104,7 +105,8 @@ copy_too f C D dir name said stamp attributes blocks id s t copy = record {
 module _ (I : List (List ℕ)) (L : VolumeLayout) (how : CopyFrom) (to : Target) (stamp : List ℕ) (found : Found) (image : IsImage I) (known : IsKnownBy I L found) where
   module _ (facts : Facts) (is : found.facts ≡ Some facts) (body : Body) (held : HasBody I L facts.file.number body) (name : RadName) (named : NamesCopy to found facts name) (id : FileId)
       (new : Filed) (D : Catalogue) (shown : ShowsBy new.image new.layout D)
-      (copy : IsCopyIn D to.directory name (version_for to found facts how.next) (stamp_for facts stamp) (true_for facts.attributes facts.blocks) body.blocks id) where
+      (copy : IsCopyIn D to.directory name (version_for to found facts how.next) (stamp_for facts stamp) (true_for facts.attributes facts.blocks) body.blocks id)
+      (kept : (file : File) → finmap.get D.files id ≡ Some file → file.protection ≡ facts.protection) where
     abbrev n : ℕ
     n = facts.file.number
 
@@ -141,6 +143,7 @@ module _ (I : List (List ℕ)) (L : VolumeLayout) (how : CopyFrom) (to : Target)
       named = named;
       id = id;
       there = λ E s. copy_too new D E to.directory name (version_for to found facts how.next) (stamp_for facts stamp) (true_for facts.attributes facts.blocks) body.blocks id shown s copy;
+      protection = λ E file s there. kept file (shown_too new E D s shown id file there);
       same = same;
       alike = alike;
     }
@@ -151,16 +154,24 @@ module _ (I : List (List ℕ)) (L : VolumeLayout) (how : CopyFrom) (to : Target)
       let a = goes C s in
       has_copy has.facts has.known has.body has.held has.name has.named has.id new a.left a.shown
       (copy_in C a.left to.directory has.name (version_for to found has.facts how.next) (stamp_for has.facts stamp) (true_for has.facts.attributes has.facts.blocks) has.body.blocks has.id a.all (has.there C s))
+      (λ file there. ap (λ (f : File). f.protection) (same_Some file (has.there C s).file (sym there ∙ a.all.files has.id (has.there C s).file (has.there C s).there (ap is_directory (has.there C s).body)))
+      ∙ has.protection C (has.there C s).file s (has.there C s).there)
 
   -- One file is copied.
   module _ (old new : Filed) (copied : IsCopiedOver I L how to stamp found old new) where
+    given_there : (C : Catalogue) → ShowsBy copied.made.mid.image copied.made.mid.layout C
+        → IsGivenLeft C to.directory (version_for to found copied.facts how.next) (record { name = copied.name; version = copied.made.version; stamp = stamp_for copied.facts stamp })
+        (true_for copied.facts.attributes copied.facts.blocks) copied.bytes copied.facts.protection copied.made.file new
+    given_there C s =
+        let facts : Facts = copied.facts in
+        given_left (placing_of how facts) old.user to.directory (version_for to found facts how.next) (record { name = copied.name; version = copied.made.version; stamp = stamp_for facts stamp })
+        (true_for facts.attributes facts.blocks) copied.bytes facts.protection copied.made.file copied.made.mid copied.made.filed new C s copied.made.made copied.made.given
+
     all_left : IsAllLeft old new
     all_left =
-        let facts : Facts = copied.facts in
         left_next old copied.made.mid new
-        (left_next_version old copied.made.mid to.directory copied.name (version_for to found facts how.next) copied.made.version copied.made.next)
-        (left_made (placing_of how facts) old.user to.directory (version_for to found facts how.next) (record { name = copied.name; version = copied.made.version; stamp = stamp_for facts stamp })
-        (true_for facts.attributes facts.blocks) copied.bytes copied.made.file copied.made.mid new copied.made.made)
+        (left_next_version old copied.made.mid to.directory copied.name (version_for to found copied.facts how.next) copied.made.version copied.made.next)
+        (λ C s. let is = given_there C s in record { left = is.left; shown = is.shown; all = is.all })
 
     -- its blocks are those of the bytes
     same_blocks : blocks_with copied.bytes ≡ copied.body.blocks
@@ -172,19 +183,19 @@ module _ (I : List (List ℕ)) (L : VolumeLayout) (how : CopyFrom) (to : Target)
     one_there C s =
         let facts : Facts = copied.facts in
         let first = left_next_version old copied.made.mid to.directory copied.name (version_for to found facts how.next) copied.made.version copied.made.next C s in
-        let is = made_left (placing_of how facts) old.user to.directory (version_for to found facts how.next) (record { name = copied.name; version = copied.made.version; stamp = stamp_for facts stamp })
-        (true_for facts.attributes facts.blocks) copied.bytes copied.made.file copied.made.mid new first.left first.shown copied.made.made in
-        has_copy facts copied.copyable.known copied.body copied.held copied.name copied.copyable.named copied.made.file new is.entered.left is.entered.shown
+        let is = given_there first.left first.shown in
+        has_copy facts copied.copyable.known copied.body copied.held copied.name copied.copyable.named copied.made.file new is.left is.shown
         (record {
           file = is.whole;
           there = is.there;
           body = is.body ∙ ap (Plain (true_for facts.attributes facts.blocks)) same_blocks;
           number = copied.made.version;
           ident = is.ident;
-          version = is.entered.version;
-          entry = is.entered.entry;
-          as_said = is.entered.as_said;
+          version = is.version;
+          entry = is.entry;
+          as_said = is.as_said;
         })
+        (λ file there. ap (λ (f : File). f.protection) (same_Some file is.whole (sym there ∙ is.there)) ∙ is.protection)
 
 pub copy_is_there : CopyIsThere
 copy_is_there I L how to stamp found old new C image known shown copied =

@@ -15,6 +15,8 @@ use Rattle.ods_request.proofs.FrameLaws.{get-put_other}
 use Rattle.ods_request.proofs.Orders.{file_cmp-total, file_cmp-antisymmetric}
 use Rattle.ods_request.proofs.StepLaws.{looked}
 use Rattle.ods_state.specs.Contents.{ShowsBy}
+use Rattle.ods_amend.specs.Access.{put_access, with_access}
+use Rattle.ods_filing.specs.Amended.{HasGiven}
 use Rattle.ods_filing.specs.Contiguous.{contiguous_with}
 use Rattle.ods_filing.specs.Filed.{Filed, IsDone, for_another}
 use Rattle.ods_filing.specs.Led.{IsObeyed}
@@ -163,6 +165,8 @@ pub record IsPlainLeft (C : Catalogue) (dir : FileId) (said : Option ℕ) (headi
   pub whole : File
   pub body : whole.body ≡ Plain attributes (blocks_with bytes)
   pub ident : whole.ident ≡ new_ident heading.name heading.version heading.stamp
+  -- no file had its ID
+  pub free : finmap.get C.files file ≡ None
   pub entered : IsEntered (created C file whole) dir heading.name said file new
   pub all : HasAllOf C entered.left
   pub there : finmap.get entered.left.files file ≡ Some whole
@@ -176,6 +180,7 @@ plain_left made whole dir said heading attributes bytes file who new C has named
       whole = whole;
       body = has;
       ident = named;
+      free = free;
       entered = is;
       all = all_of_next C (created C file whole) is.left (all_of_created C file whole free) is.all;
       there = is.all.files file whole (get_here file_cmp-total file_cmp-antisymmetric C.files file whole) (ap is_directory has);
@@ -193,3 +198,75 @@ pub left_made : (placing : Placing) (owner : Uic) (dir : FileId) (said : Option 
 left_made placing owner dir said heading attributes bytes file old new put C s =
     let is = made_left placing owner dir said heading attributes bytes file old new C s put in
     record { left = is.entered.left; shown = is.entered.shown; all = is.all }
+
+-- A plain file receives a protection.
+module _ (E : Catalogue) (id : FileId) (whole : File) (word : ℕ) (attributes : List ℕ) (blocks : List (List ℕ)) (there : finmap.get E.files id ≡ Some whole) (plain : whole.body ≡ Plain attributes blocks) where
+  abbrev given_word : Catalogue
+  given_word = put_access E id None (Some word) None
+
+  given_here : finmap.get given_word.files id ≡ Some (with_access whole None (Some word) None)
+  given_here =
+      get_here file_cmp-total file_cmp-antisymmetric E.files id (with_access (file_at E id) None (Some word) None)
+      ∙ ap (λ o. Some (with_access (unwrap_or o no_file) None (Some word) None)) there
+
+  given_other : (q : FileId) → ¬ (Some id ≡ Some q) → finmap.get given_word.files q ≡ finmap.get E.files q
+  given_other q apart = get-put_other E id (with_access (file_at E id) None (Some word) None) q apart
+
+  -- it is no directory, so each entry of one stays
+  given_entry : (dir : FileId) (name : RadName) (version : ℕ) (file : FileId) → IsEntryOf E dir name version file → IsEntryOf given_word dir name version file
+  given_entry dir name version file entry = ap (λ o. finmap.get (names_of (unwrap_or o no_file).body) (key_of name version)) (given_other dir apart) ∙ entry
+    where
+      apart : ¬ (Some id ≡ Some dir)
+      apart same =
+          let one : id ≡ dir = cc in
+          let wrong : None ≡ Some file =
+          sym (finmap.get-empty _ (key_of name version)) ∙ ap (λ b. finmap.get (names_of b) (key_of name version)) (sym plain)
+          ∙ ap (λ o. finmap.get (names_of (unwrap_or o no_file).body) (key_of name version)) (sym there) ∙ subst (λ d. IsEntryOf E d name version file) (sym one) entry in
+          absurd (cc)
+
+  -- and all that is left of a catalogue without it
+  given_all : (C : Catalogue) → finmap.get C.files id ≡ None → HasAllOf C E → HasAllOf C given_word
+  given_all C free has = record {
+    files = λ q f is flat. given_other q (apart q f is) ∙ has.files q f is flat;
+    entries = λ dir name version file is. given_entry dir name version file (has.entries dir name version file is);
+  }
+    where
+      apart : (q : FileId) (f : File) → finmap.get C.files q ≡ Some f → ¬ (Some id ≡ Some q)
+      apart q f is same =
+          let one : id ≡ q = cc in
+          let wrong : None ≡ Some f = sym free ∙ ap (finmap.get C.files) one ∙ is in
+          absurd (cc)
+
+-- What is left when a plain file is made for its owner, entered, and given a protection.
+pub record IsGivenLeft (C : Catalogue) (dir : FileId) (said : Option ℕ) (heading : Heading) (attributes bytes : List ℕ) (word : ℕ) (file : FileId) (new : Filed) : Type 0 where
+  pub whole : File
+  pub body : whole.body ≡ Plain attributes (blocks_with bytes)
+  pub ident : whole.ident ≡ new_ident heading.name heading.version heading.stamp
+  pub protection : whole.protection ≡ word
+  pub left : Catalogue
+  pub shown : ShowsBy new.image new.layout left
+  pub all : HasAllOf C left
+  pub there : finmap.get left.files file ≡ Some whole
+  pub version : ℕ
+  pub entry : IsEntryOf left dir heading.name version file
+  pub as_said : IfSome said (λ v. version ≡ v)
+
+pub given_left : (placing : Placing) (owner : Uic) (dir : FileId) (said : Option ℕ) (heading : Heading) (attributes bytes : List ℕ) (word : ℕ) (file : FileId) (old filed new : Filed) (C : Catalogue) → ShowsBy old.image old.layout C
+    → IsMadeFor placing owner dir said heading attributes bytes file old filed → HasGiven filed file None (Some word) new → IsGivenLeft C dir said heading attributes bytes word file new
+given_left placing owner dir said heading attributes bytes word file old filed new C s made given =
+    let is = made_left placing owner dir said heading attributes bytes file old filed C s made in
+    let E : Catalogue = is.entered.left in
+    let shown : ShowsBy new.image filed.layout (put_access E file None (Some word) None) = given.given.0.shown E is.entered.shown in
+    record {
+      whole = with_access is.whole None (Some word) None;
+      body = is.body;
+      ident = is.ident;
+      protection = refl;
+      left = put_access E file None (Some word) None;
+      shown = subst (λ l. ShowsBy new.image l (put_access E file None (Some word) None)) (sym given.given.1) shown;
+      all = given_all E file is.whole word attributes (blocks_with bytes) is.there is.body C is.free is.all;
+      there = given_here E file is.whole word attributes (blocks_with bytes) is.there is.body;
+      version = is.entered.version;
+      entry = given_entry E file is.whole word attributes (blocks_with bytes) is.there is.body dir heading.name is.entered.version file is.entered.entry;
+      as_said = is.entered.as_said;
+    }

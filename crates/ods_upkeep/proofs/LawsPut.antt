@@ -64,7 +64,7 @@ end_is : (rtyp ratt rsiz n : ℕ) → end_of (attributes rtyp ratt rsiz n) ≡ n
 end_is rtyp ratt rsiz n = by_parts n (end_block (attributes rtyp ratt rsiz n)) (word_at (attributes rtyp ratt rsiz n) 12) (block_is rtyp ratt rsiz n) (byte_is rtyp ratt rsiz n)
 
 -- four bytes are in front of others
-four : (P : List ℕ → Type 0) → ((a b c d : ℕ) (own : List ℕ) → P (a ∷ b ∷ c ∷ d ∷ own)) → (own : List ℕ) → 4 ≤ length own → P own
+pub four : (P : List ℕ → Type 0) → ((a b c d : ℕ) (own : List ℕ) → P (a ∷ b ∷ c ∷ d ∷ own)) → (own : List ℕ) → 4 ≤ length own → P own
 four P each [] size = absurd (omega (arith, size))
 four P each (a ∷ []) size = absurd (omega (arith, size))
 four P each (a ∷ b ∷ []) size = absurd (omega (arith, size))
@@ -76,7 +76,7 @@ contents_end : (how : PutForm) (bytes own stored : List ℕ) → IsByContents ho
 contents_end how bytes own stored (inl text) = ap end_of text.1.are ∙ end_is 2 2 text.1.longest (length stored)
 contents_end how bytes own stored (inr raw) = ap end_of raw.1.are ∙ end_is 1 0 512 (length bytes) ∙ ap length (sym raw.1.same)
 
-written_end : (how : PutForm) (bytes own stored : List ℕ) → IsWritten how None bytes own stored → end_of own ≡ length stored
+pub written_end : (how : PutForm) (bytes own stored : List ℕ) → IsWritten how None bytes own stored → end_of own ≡ length stored
 written_end asked.ByContents bytes own stored is = contents_end asked.ByContents bytes own stored is
 written_end asked.Text bytes own stored is = contents_end asked.Text bytes own stored is
 written_end asked.Binary bytes own stored is = contents_end asked.Binary bytes own stored is
@@ -131,7 +131,7 @@ module _ (J : List (List ℕ)) (M : VolumeLayout) (n : ℕ) (bytes own stored : 
       let spelled : Spells Variable stored (lines bytes) = subst (λ l. Spells Variable l (lines bytes)) (sym text.lines.spelled) (spells_written (lines bytes) plain.short) in
       text_got other stored given said (length stored) text.longest bytes (all.0 ∙ text.are) all.1 spelled plain is.2
 
-  got_back : (how : PutForm) → KeepsBytes how → IsWritten how None bytes own stored → given ≡ bytes
+  pub got_back : (how : PutForm) → KeepsBytes how → IsWritten how None bytes own stored → given ≡ bytes
   got_back asked.ByContents keeps (inl text) = text_back text.0.1 text.1
   got_back asked.ByContents keeps (inr raw) = raw_back raw.1
   got_back asked.Binary keeps (inl text) = absurd text.0
@@ -150,7 +150,7 @@ text_fault bytes own stored text kind f is first =
 raw_fault : (bytes own stored : List ℕ) → AreBytes None bytes own stored → (kind : RecordKind) → kind_in own ≡ Some kind → ⊥
 raw_fault bytes own stored raw kind is = absurd (let wrong : None ≡ Some kind = ap kind_in (sym raw.are) ∙ is in cc)
 
-no_fault : (bytes own stored : List ℕ) (how : PutForm) → KeepsBytes how → IsWritten how None bytes own stored → (kind : RecordKind) (f : RecordFault) → kind_in own ≡ Some kind → IsFirstFault kind stored f → ⊥
+pub no_fault : (bytes own stored : List ℕ) (how : PutForm) → KeepsBytes how → IsWritten how None bytes own stored → (kind : RecordKind) (f : RecordFault) → kind_in own ≡ Some kind → IsFirstFault kind stored f → ⊥
 no_fault bytes own stored asked.ByContents keeps (inl text) kind f is first = text_fault bytes own stored text.1 kind f is first
 no_fault bytes own stored asked.ByContents keeps (inr raw) kind f is first = raw_fault bytes own stored raw.1 kind is
 no_fault bytes own stored asked.Binary keeps (inl text) kind f is first = absurd text.0
@@ -159,9 +159,9 @@ no_fault bytes own stored asked.Text keeps written kind f is first = absurd keep
 no_fault bytes own stored (asked.Said four_bytes) keeps written kind f is first = absurd keeps
 
 -- so nothing but want of memory is in the way of `get`
-module _ (J : List (List ℕ)) (M : VolumeLayout) (id : FileId) (bytes own stored : List ℕ) (shows : ShowsBytes J M id own stored) (gives : GivesBack J M id.number own stored)
-    (how : PutForm) (keeps : KeepsBytes how) (written : IsWritten how None bytes own stored) where
-  fails_alone : (why : FormFault) → IsNotGot J M id.number ByKind why → why ≡ fault.NoMemory
+module _ (J : List (List ℕ)) (M : VolumeLayout) (id : FileId) (own stored : List ℕ) (shows : ShowsBytes J M id own stored) (gives : GivesBack J M id.number own stored)
+    (none : (kind : RecordKind) (f : RecordFault) → kind_in own ≡ Some kind → IsFirstFault kind stored f → ⊥) where
+  pub fails_alone : (why : FormFault) → IsNotGot J M id.number ByKind why → why ≡ fault.NoMemory
   fails_alone fault.NoSuchFile is = only_memory J M id own stored shows gives fault.NoSuchFile is
   fails_alone fault.BadChain is = only_memory J M id own stored shows gives fault.BadChain is
   fails_alone (fault.OutsideVolume lbn) is = only_memory J M id own stored shows gives (fault.OutsideVolume lbn) is
@@ -169,7 +169,7 @@ module _ (J : List (List ℕ)) (M : VolumeLayout) (id : FileId) (bytes own store
   fails_alone (fault.Records f) is =
       let all = gives.gives is.0 is.1 in
       let same : is.2.2.0 ≡ stored = same_Some is.2.2.0 stored (sym is.2.2.1 ∙ all.1) in
-      absurd (no_fault bytes own stored how keeps written is.2.0 f (ap kind_in (sym all.0) ∙ is.2.1) (subst (λ b. IsFirstFault is.2.0 b f) same is.2.2.2))
+      absurd (none is.2.0 f (ap kind_in (sym all.0) ∙ is.2.1) (subst (λ b. IsFirstFault is.2.0 b f) same is.2.2.2))
   fails_alone (fault.TooLongForBlock size) is = absurd (let wrong : ByKind ≡ Text = is.2.0 in cc)
   fails_alone fault.NoMemory is = refl
 
@@ -204,7 +204,7 @@ module _ (how : TreeForm) (dir : FileId) (path bytes : List ℕ) (names : List R
         there = λ E t. copy_too new D E place name version how.stamp own (blocks_with stored) id shown t copy;
         gives = back;
         got = λ keeps given said got. got_back new.image new.layout id.number bytes own stored back given said got how.form keeps written;
-        fails = λ keeps why is. fails_alone new.image new.layout id bytes own stored shows back how.form keeps written why is;
+        fails = λ keeps why is. fails_alone new.image new.layout id own stored shows back (no_fault bytes own stored how.form keeps written) why is;
       }
 
 -- What comes later leaves it.
@@ -229,6 +229,13 @@ module _ (how : TreeForm) (dir : FileId) (path bytes : List ℕ) (old new : File
   leaf_made C s =
       let done = leaf.put.put in
       made_left how.placing (unwrap_or how.owner leaf.there.user) leaf.place (option_or done.free leaf.version) (record { name = leaf.put.name; version = done.version; stamp = how.stamp }) leaf.put.attributes leaf.put.stored done.file done.seen new C s done.made
+
+  -- its form is the one that is said
+  leaf_written : IsWritten how.form None bytes leaf.put.attributes leaf.put.stored
+  leaf_written =
+      let attributes = leaf.put.attributes in
+      let stored = leaf.put.stored in
+      subst (λ (f : PutForm). IsWritten f None bytes attributes stored) leaf.put.formed.0 (subst (λ (o : Option (List ℕ)). IsWritten leaf.put.chosen o bytes attributes stored) leaf.put.formed.1 leaf.put.written)
 
   leaf_left : IsAllLeft old new
   leaf_left C s =
@@ -259,7 +266,7 @@ module _ (how : TreeForm) (dir : FileId) (path bytes : List ℕ) (old new : File
       let named : IsCopyIn left leaf.place leaf.name leaf.version how.stamp own (blocks_with stored) done.file =
       subst (λ o. IsCopyIn left leaf.place leaf.name (option_or o leaf.version) how.stamp own (blocks_with stored) done.file) done.room.0
       (subst (λ m. IsCopyIn left leaf.place m (option_or done.free leaf.version) how.stamp own (blocks_with stored) done.file) leaf.put.named copy) in
-      leaf_by how dir path bytes leaf.made.0 leaf.made.1 leaf.place leaf.folders leaf.last leaf.parted leaf.name leaf.version leaf.named own stored leaf.put.written done.file new left is.entered.shown
+      leaf_by how dir path bytes leaf.made.0 leaf.made.1 leaf.place leaf.folders leaf.last leaf.parted leaf.name leaf.version leaf.named own stored leaf_written done.file new left is.entered.shown
       (way_kept place.left left (all_of_next place.left seen.left left seen.all is.all) leaf.made.0 dir leaf.place place.way) named
 
 pub leaf_comes_back : LeafComesBack

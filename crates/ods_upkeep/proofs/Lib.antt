@@ -6,10 +6,12 @@ pub mod Doing
 pub mod Hiding
 pub mod Listings
 pub mod Lists
+pub mod Legs
 pub mod MayBe
 pub mod Moves
 pub mod Naming
 pub mod OneNaming
+pub mod Picking
 pub mod PutLists
 pub mod Made
 pub mod Gone
@@ -23,6 +25,7 @@ pub mod LawsCopied
 pub mod LawsTrees
 pub mod PlainLines
 pub mod LawsPut
+pub mod LawsForms
 pub mod Advising
 pub mod Below
 pub mod NameTexts

@@ -1,6 +1,6 @@
 -- Files of an archive, put one by one.
 use Rattle.std.proofs.Common.{◌≡◌, ℕ, false, List, [], Option, None, Result, Ok, Err, sym, subst}
-use Rattle.std.specs.Prelude.{MatchResult}
+use Rattle.std.specs.Prelude.{MatchResult, is_some}
 use Rattle.ods_base.specs.Name.{RadName}
 use Rattle.ods_base.specs.declared.file_id.FileId.{FileId}
 use Rattle.ods_base.specs.declared.file_id.Uic.{Uic}
@@ -49,7 +49,7 @@ module _ (packed : Packed) (dir : FileId) (name : RadName) (said : Option ℕ) (
 
 -- the file is put, or not, when its directory takes names
 pub ends : {A : Type 0} (r : Result A Why) (stamp : List ℕ) (packed : Packed) (old ready new : Filed) (parts : List (List ℕ)) (last : List ℕ) (name : RadName) (said : Option ℕ) (attributes stored way : List ℕ) (dir : FileId)
-    → has_wildcard packed.path.now ≡ false → IsParted packed.path.now parts last → SaysFile last name said → IsUnpacked packed.attributes packed.bytes.now attributes stored → IsWay stamp parts [] old way ready
+    → has_wildcard packed.path.now ≡ false → IsParted packed.path.now parts last → SaysFile (is_some packed.owner) last name said → IsUnpacked packed.attributes packed.bytes.now attributes stored → IsWay stamp parts [] old way ready
     → IsOpen ready.image ready.layout (path_of_way way) dir
     → MatchResult r (λ _. IsFiled packed dir name said attributes stored ready new) (IsNotFiled packed dir name said attributes stored ready new)
     → MatchResult r (λ _. IsUntarred stamp packed old new) (IsNotUntarred stamp packed old new)

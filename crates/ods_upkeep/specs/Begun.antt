@@ -18,6 +18,7 @@ use Rattle.ods_upkeep.specs.Versions.{AreHighest, Noted}
 use Rattle.ods_upkeep.specs.declared.asked.Placing.{Placing}
 use Rattle.ods_upkeep.specs.declared.asked.Placing.TheVariants.{Anywhere, InOnePiece}
 use Rattle.ods_upkeep.specs.declared.asked.PutForm.{PutForm}
+use Rattle.ods_upkeep.specs.declared.asked.PutForm.TheVariants as form
 
 -- the path of the target: the given one, or the path of the master directory
 abbrev pub path_to : Option (Bor (List ℕ)) → List ℕ
@@ -40,6 +41,14 @@ pub record IsLikeable (I : List (List ℕ)) (L : VolumeLayout) (path : List ℕ)
 abbrev pub IsLike : List (List ℕ) → VolumeLayout → Option (Bor (List ℕ)) → Option Facts → Type 0
 IsLike I L None like = like ≡ None
 IsLike I L (Some path) like = (facts : Facts) × (like ≡ Some facts) × IsLikeable I L path.now facts
+
+-- files keep the form of the version before: no form is given, and no model file
+abbrev pub keeps_form : PutForm → Option (Bor (List ℕ)) → Bool
+keeps_form form.ByContents None = true
+keeps_form form.ByContents (Some like) = false
+keeps_form form.Text like = false
+keeps_form form.Binary like = false
+keeps_form (form.Said four) like = false
 
 -- the file is contiguous: bit 7 of H.UCHA is set
 abbrev pub is_contiguous : Facts → Bool
@@ -69,6 +78,7 @@ pub record IsBegun (I : List (List ℕ)) (L : VolumeLayout) (stamp : List ℕ) (
   pub facts : Option Facts
   pub liked : IsLike I L like facts
   pub attributed : begun.like ≡ option_map (λ (f : Facts). f.attributes) facts
+  pub keeping : begun.keeps ≡ keeps_form form like
   pub placed : begun.placing ≡ placing_by placing facts
   pub owned : begun.owner ≡ owner
   pub named : AreNames I L replace begun.names

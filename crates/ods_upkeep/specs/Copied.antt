@@ -1,4 +1,4 @@
--- The requests of cp: for each file that is found a new one is created, with the bytes of all its blocks and with its attributes.
+-- What cp does: for each file that is found a new one is created, with the bytes of all its blocks, its attributes and its protection.
 use Rattle.std.specs.Prelude.{◌≡◌, ◌≢◌, ◌⊎◌, ◌≤◌, ◌<◌, ◌*◌, ℕ, nat_lt, true, false, if◌then◌else◌, List, [], ◌∷◌, ◌++◌, length, take, drop, Option, Some, None}
 use Rattle.std.specs.Borrow.{Bor}
 use Rattle.ods_base.specs.Name.{RadName, Spells, directory_type}
@@ -16,6 +16,7 @@ use Rattle.ods_records.specs.Attributes.{block, end_of}
 use Rattle.ods_request.specs.Rights.{permits}
 use Rattle.ods_request.specs.declared.refusals.Refusal.TheVariants as refusal
 use Rattle.ods_request.specs.declared.rights.Right.TheVariants.{Read}
+use Rattle.ods_filing.specs.Amended.{HasGiven}
 use Rattle.ods_filing.specs.Filed.{Filed}
 use Rattle.ods_shell.specs.declared.alone.Alone.TheVariants as alone
 use Rattle.ods_shell.specs.Named.{highest}
@@ -82,14 +83,16 @@ true_for own blocks =
     else take 4 own ++ block blocks ++ drop 8 own
 
 -- A copy with these bytes is made of a file of which this is known: the user makes it, with its blocks placed this way, and enters it under this
--- name, under the given version or the next one.
+-- name, under the given version or the next one. Then it has received the protection of that file.
 pub record IsCopyMade (placing : Placing) (to : Target) (name : RadName) (stamp : List ℕ) (facts : Facts) (bytes : List ℕ) (old new : Filed) : Type 0 where
   -- the version that the header of the copy gets, and the volume when it is looked up
   pub version : ℕ
   pub mid : Filed
   pub next : IsNextVersion old to.directory name to.version version mid
   pub file : FileId
-  pub made : IsMadeFor placing old.user to.directory to.version (record { name = name; version = version; stamp = stamp }) (true_for facts.attributes facts.blocks) bytes file mid new
+  pub filed : Filed
+  pub made : IsMadeFor placing old.user to.directory to.version (record { name = name; version = version; stamp = stamp }) (true_for facts.attributes facts.blocks) bytes file mid filed
+  pub given : HasGiven filed file None (Some facts.protection) new
 
 -- A file is copied. Its facts are as they were found at first; its bytes are the bytes of all its blocks when its turn comes.
 pub record IsCopied (placing : Placing) (to : Target) (stamp : List ℕ) (found : Found) (old new : Filed) : Type 0 where

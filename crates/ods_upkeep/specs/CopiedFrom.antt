@@ -1,5 +1,5 @@
--- The requests of cp for files of another volume: for each file that is found there a new one is created here, with the bytes of all its blocks, its
--- attributes, its date of creation, its name and its version.
+-- What cp does for files of another volume: for each file that is found there a new one is created here, with the bytes of all its blocks, its
+-- attributes, its protection, its date of creation, its name and its version.
 use Rattle.std.specs.Prelude.{◌≡◌, ℕ, Bool, true, not, List, [], ◌∷◌, length, Option, Some, None, if◌then◌else◌}
 use Rattle.std.specs.Borrow.{Bor}
 use Rattle.std.specs.List.{All, filter, list_all}
@@ -12,7 +12,6 @@ use Rattle.ods_space.specs.Files.{FindsFiles}
 use Rattle.ods_space.specs.Layout.{VolumeLayout}
 use Rattle.ods_request.specs.Stamps.{is_stamp}
 use Rattle.ods_filing.specs.Filed.{Filed}
-use Rattle.ods_filing.specs.Led.{IsLed}
 use Rattle.ods_shell.specs.Facts.{created_in}
 use Rattle.ods_shell.specs.Named.{highest}
 use Rattle.ods_shell.specs.Passed.{is_passed_over}
@@ -24,6 +23,7 @@ use Rattle.ods_shell.specs.declared.found.Found.{Found}
 use Rattle.ods_upkeep.specs.Begun.{placing_by}
 use Rattle.ods_upkeep.specs.Copied.{IsCopyMade, IsCopyable}
 use Rattle.ods_upkeep.specs.Kinds.{Copies}
+use Rattle.ods_upkeep.specs.Legs.{IsLedGiving}
 use Rattle.ods_upkeep.specs.Ready.{MayHaveGrown}
 use Rattle.ods_upkeep.specs.Sources.{AreOfPath, AreSources}
 use Rattle.ods_upkeep.specs.Target.{IsTarget}
@@ -96,9 +96,9 @@ IsCopiedFrom I L how stamp paths to old new =
     (files : List Found) × ((target : Target) × AreFilesFrom I L paths files × IsTarget old.image old.layout (length files) to target
     × AreAllCopiedOver I L how target stamp files old new)
 
--- INDEXF.SYS may have grown, and requests of the kind of a cp made all the rest
+-- INDEXF.SYS may have grown, and requests of the kind of a cp made all the rest, with protections set in between
 abbrev pub IsLedFrom : Filed → Filed → Type 0
-IsLedFrom old new = (count : ℕ) × ((ready : Filed) × MayHaveGrown count old ready × IsLed Copies ready new)
+IsLedFrom old new = (count : ℕ) × ((ready : Filed) × MayHaveGrown count old ready × IsLedGiving Copies ready new)
 
 -- The same of the files of some volume: only the host, which has its image, knows which one.
 abbrev pub IsCopiedFromSome : CopyFrom → List ℕ → List (Bor (List ℕ)) → List ℕ → Filed → Filed → Type 0

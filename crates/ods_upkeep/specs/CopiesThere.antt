@@ -80,6 +80,8 @@ pub record HasCopy (I : List (List ℕ)) (L : VolumeLayout) (how : CopyFrom) (to
   -- date
   pub there : (D : Catalogue) → ShowsBy new.image new.layout D
       → IsCopyIn D to.directory name (version_for to found facts how.next) (stamp_for facts stamp) (true_for facts.attributes facts.blocks) body.blocks id
+  -- with the protection of the other volume's file
+  pub protection : (D : Catalogue) (file : File) → ShowsBy new.image new.layout D → finmap.get D.files id ≡ Some file → file.protection ≡ facts.protection
   -- `cmp` finds the same bytes, and no difference if the attributes of the other volume's file are true for its blocks
   pub same : HaveSameBytes I L facts.file.number new.image new.layout id.number
   pub alike : AreTrueOf facts.attributes facts.blocks → AreAlike I L facts.file.number new.image new.layout id.number

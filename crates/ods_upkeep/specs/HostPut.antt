@@ -1,17 +1,22 @@
 -- What is left of a volume, and of its known facts, when a host file has been put.
-use Rattle.std.specs.Prelude.{◌≡◌, ◌≢◌, ℕ, List, slice_index, Option, Some, None, unwrap_or}
+use Rattle.std.specs.Prelude.{◌≡◌, ◌≢◌, ℕ, Bool, true, false, List, slice_index, Option, Some, None, unwrap_or, String}
 use Rattle.std.specs.Option.{option_or}
+use Rattle.std.specs.declared.alloc.Global.{Global}
 use Rattle.ods_base.specs.Name.{RadName, directory_type}
 use Rattle.ods_base.specs.declared.file_id.FileId.{FileId}
 use Rattle.ods_filing.specs.Filed.{Filed}
+use Rattle.ods_upkeep.specs.Before.{IsBefore}
 use Rattle.ods_upkeep.specs.Counted.{one_more}
 use Rattle.ods_upkeep.specs.HostNames.{IsNameFor}
-use Rattle.ods_upkeep.specs.Left.{InPut, replaces}
+use Rattle.ods_upkeep.specs.Kept.{IsKept}
+use Rattle.ods_upkeep.specs.Left.{InPut, replaced_version, replaces}
 use Rattle.ods_upkeep.specs.Looked.{IsNextVersion}
 use Rattle.ods_upkeep.specs.PutFor.{IsMadeFor}
+use Rattle.ods_upkeep.specs.Remarks.{IsRemark}
 use Rattle.ods_upkeep.specs.Rooms.{IsRoomMade}
 use Rattle.ods_upkeep.specs.Versions.{IsNoted, Noted, behind, version_in}
 use Rattle.ods_upkeep.specs.Written.{IsWritten}
+use Rattle.ods_upkeep.specs.declared.asked.PutForm.{PutForm}
 
 -- The version of the ident of a new file: the given one; otherwise the one after the highest that is known, or that the user finds.
 abbrev pub IsVersionFor : Option Noted → Filed → FileId → RadName → Option ℕ → ℕ → Filed → Type 0
@@ -35,6 +40,7 @@ pub record IsStill (p q : InPut) : Type 0 where
   pub stamp : q.stamp ≡ p.stamp
   pub form : q.form ≡ p.form
   pub like : q.like ≡ p.like
+  pub keeps : q.keeps ≡ p.keeps
   pub placing : q.placing ≡ p.placing
   pub owner : q.owner ≡ p.owner
   pub counts : replaces q ≡ replaces p
@@ -58,13 +64,32 @@ pub record IsPutAs (p : InPut) (name : RadName) (attributes bytes : List ℕ) (o
   pub noted : AreNotedOn p.highest name version q.highest
   pub still : IsStill p q
 
+-- The form of a file, and the attributes of its model file: the given ones. If files keep their form, they are those after the version before it: the
+-- version that is replaced, or else the highest.
+abbrev pub IsFormFor : Bool → PutForm → Option (List ℕ) → FileId → RadName → Option (List ℕ) → Option ℕ → List ℕ → Filed → PutForm → Option (List ℕ) → Type 0
+IsFormFor false form like dir name names said bytes old chosen own = (chosen ≡ form) × (own ≡ like)
+IsFormFor true form like dir name names said bytes old chosen own =
+    (before : Option (List ℕ)) × IsBefore old.image old.layout dir.number name (replaced_version names said) before × IsKept before bytes chosen own
+
+-- the same, for a file that is put under this name
+abbrev pub IsFormOf : InPut → RadName → List ℕ → Filed → PutForm → Option (List ℕ) → Type 0
+IsFormOf p name bytes old chosen own = IsFormFor p.keeps p.form p.like p.target.directory name p.names p.target.version bytes old chosen own
+
 -- A host file of this name and these bytes has been put. Its name on the volume is the given one, or its own, and not of the type DIR. Its form gives
 -- attributes and bytes.
 pub record IsHostPut (p : InPut) (host bytes : List ℕ) (old : Filed) (q : InPut) (new : Filed) : Type 0 where
   pub name : RadName
   pub named : IsNameFor p.target.name host name
   pub plain : name.ext ≢ directory_type
+  pub chosen : PutForm
+  pub own : Option (List ℕ)
+  pub formed : IsFormOf p name bytes old chosen own
   pub attributes : List ℕ
   pub stored : List ℕ
-  pub written : IsWritten p.form p.like bytes attributes stored
+  pub written : IsWritten chosen own bytes attributes stored
   pub put : IsPutAs p name attributes stored old q new
+
+-- the remark on the host file, in the form that it has
+abbrev pub IsRemarkFor : InPut → List ℕ → List ℕ → Filed → Option (String Global) → Type 0
+IsRemarkFor p host bytes old remark =
+    (name : RadName) × IsNameFor p.target.name host name × ((chosen : PutForm) × ((own : Option (List ℕ)) × IsFormOf p name bytes old chosen own × IsRemark chosen own bytes remark))

@@ -1,5 +1,5 @@
 -- The contract view of files that are being put.
-use Rattle.std.specs.Prelude.{ℕ, Bool, List, Option, is_some}
+use Rattle.std.specs.Prelude.{ℕ, Bool, List, Option, Some, None, is_some}
 use Rattle.ods_base.specs.declared.file_id.Uic.{Uic}
 use Rattle.ods_upkeep.specs.declared.asked.Placing.{Placing}
 use Rattle.ods_upkeep.specs.declared.asked.PutForm.{PutForm}
@@ -15,6 +15,8 @@ pub record InPut : Type 0 where
   -- the form of its bytes, and the attributes of the model file
   pub form : PutForm
   pub like : Option (List ℕ)
+  -- whether a file keeps the form of the version before it
+  pub keeps : Bool
   -- where its blocks are allocated
   pub placing : Placing
   -- its owner, if it differs from the requesting user
@@ -31,3 +33,8 @@ at_time p stamp = record p { stamp = stamp }
 -- files are replaced
 abbrev pub replaces : InPut → Bool
 replaces p = is_some p.names
+
+-- the version that is replaced, if files are replaced and a version is given
+abbrev pub replaced_version : Option (List ℕ) → Option ℕ → Option ℕ
+replaced_version None said = None
+replaced_version (Some names) said = said

@@ -3,6 +3,7 @@ pub mod Cut
 pub mod Given
 pub mod Hidden
 pub mod Kinds
+pub mod Legs
 pub mod Laws
 pub mod Left
 pub mod Made
@@ -34,6 +35,8 @@ pub mod Remarks
 pub mod Rooms
 pub mod Versions
 pub mod Written
+pub mod Kept
+pub mod Before
 pub mod Wayside
 pub mod Untarred
 pub mod Ready

@@ -1,19 +1,21 @@
 -- The result of put -r for a file of the host, and what get gives of it: laws over definitions only.
-use Rattle.std.specs.Prelude.{◌≡◌, ℕ, List, [], ◌∷◌, Option, None}
+use Rattle.std.specs.Prelude.{◌≡◌, ℕ, List, [], ◌∷◌, length, take, Option, Some, None, IfSome}
 use Rattle.std.specs.List.{All}
 use Rattle.ods_base.specs.Name.{RadName}
 use Rattle.ods_base.specs.declared.file_id.FileId.{FileId}
 use Rattle.ods_request.specs.Catalogue.{Catalogue}
 use Rattle.ods_state.specs.Contents.{ShowsBy}
 use Rattle.ods_filing.specs.Filed.{Filed}
-use Rattle.ods_filing.specs.Laws.{GivesBack}
+use Rattle.ods_filing.specs.Laws.{GivesBack, ShowsBytes}
 use Rattle.ods_filing.specs.Put.{blocks_with}
 use Rattle.ods_records.specs.declared.kind.Wanted.TheVariants.{ByKind}
 use Rattle.ods_shell.specs.Contents.{IsGot, IsNotGot}
 use Rattle.ods_shell.specs.declared.form.FormFault.{FormFault}
 use Rattle.ods_shell.specs.declared.form.FormFault.TheVariants.{NoMemory}
 use Rattle.ods_shell.specs.declared.form.Remark.{Remark}
+use Rattle.ods_space.specs.Layout.{VolumeLayout}
 use Rattle.ods_upkeep.specs.CopiesThere.{IsCopyIn, IsWayIn, LeavesAll}
+use Rattle.ods_upkeep.specs.Kept.{IsKept}
 use Rattle.ods_upkeep.specs.TreeNames.{IsTreeName, SaysFolders}
 use Rattle.ods_upkeep.specs.TreePut.{IsFolderPut, IsLeafPut}
 use Rattle.ods_upkeep.specs.Wayside.{IsParted}
@@ -92,3 +94,21 @@ IsItemBack dir new (AFile how path bytes) = IsLeafBack how dir path bytes new
 abbrev pub TreeComesBack : Type 0
 TreeComesBack = (dir : FileId) (items : List TreeItem) (old new : Filed) (C : Catalogue) → ShowsBy old.image old.layout C → AreItemsPut dir items old new
     → All (IsItemBack dir new) items × LeavesAll old new
+
+-- F.RTYP and F.RATT are those of the model file, if there is one
+abbrev pub HasFormOf : Option (List ℕ) → List ℕ → Type 0
+HasFormOf None attributes = Unit {0}
+HasFormOf (Some own) attributes = take 2 attributes ≡ take 2 own
+
+-- File n gives back the stored bytes. `get` gives exactly the bytes of the host file, and fails only out of memory. The form is that of the model file.
+pub record IsKeptBack (I : List (List ℕ)) (L : VolumeLayout) (n : ℕ) (own : Option (List ℕ)) (bytes attributes stored : List ℕ) : Type 0 where
+  pub formed : HasFormOf own attributes
+  pub gives : GivesBack I L n attributes stored
+  pub got : (given : List ℕ) (said : Option Remark) → IsGot I L n ByKind given said → given ≡ bytes
+  pub fails : (fault : FormFault) → IsNotGot I L n ByKind fault → fault ≡ NoMemory
+
+-- A file in the form that put keeps of the version before comes back: its form is that of the version before, or chosen by its contents.
+abbrev pub KeptComesBack : Type 0
+KeptComesBack = (I : List (List ℕ)) (L : VolumeLayout) (id : FileId) (before : Option (List ℕ)) (bytes : List ℕ) (chosen : PutForm) (own : Option (List ℕ)) (attributes stored : List ℕ)
+    → IfSome before (λ a. length a ≡ 32) → IsKept before bytes chosen own → IsWritten chosen own bytes attributes stored → ShowsBytes I L id attributes stored
+    → IsKeptBack I L id.number own bytes attributes stored

@@ -1,5 +1,5 @@
 -- The result of put -r for a volume: a directory for each folder of a tree of the host, and the files of the tree in them.
-use Rattle.std.specs.Prelude.{◌≡◌, ◌⊎◌, ℕ, List, Option, Some, None}
+use Rattle.std.specs.Prelude.{◌≡◌, ◌⊎◌, ℕ, false, List, Option, Some, None}
 use Rattle.ods_base.specs.Name.{RadName}
 use Rattle.ods_base.specs.declared.file_id.FileId.{FileId}
 use Rattle.ods_filing.specs.Filed.{Filed}
@@ -40,6 +40,7 @@ put_in how place name version = record {
   stamp = how.stamp;
   form = how.form;
   like = None;
+  keeps = false;
   placing = how.placing;
   owner = how.owner;
   names = None;

@@ -3,10 +3,13 @@ use Rattle.std.specs.Prelude.{◌≡◌, ◌⊎◌, ◌≤◌, ◌*◌, ◌^◌,
 use Rattle.std.specs.Borrow.{Bor}
 use Rattle.std.specs.String.{string_bytes}
 use Rattle.ods_base.specs.Name.{RadName}
+use Rattle.ods_base.specs.declared.file_id.FileId.{FileId}
 use Rattle.ods_base.specs.declared.file_id.Uic.{Uic}
 use Rattle.ods_files.specs.Body.{Body, HasBody, bytes_in}
 use Rattle.ods_files.specs.declared.form.Form.TheVariants.{Raw}
+use Rattle.ods_request.specs.declared.refusals.Refusal.{Refusal}
 use Rattle.ods_request.specs.declared.refusals.Refusal.TheVariants as refusal
+use Rattle.ods_filing.specs.Amended.{IsWhyNotGiven}
 use Rattle.ods_filing.specs.Filed.{Filed}
 use Rattle.ods_shell.specs.declared.alone.Alone.TheVariants as alone
 use Rattle.ods_shell.specs.Named.{highest}
@@ -14,6 +17,7 @@ use Rattle.ods_shell.specs.declared.facts.Facts.{Facts}
 use Rattle.ods_shell.specs.declared.found.Found.{Found}
 use Rattle.ods_upkeep.specs.Copied.{IsCopyable, IsCopied, IsUncopyable, IsUnread, true_for}
 use Rattle.ods_upkeep.specs.Looked.{IsNextVersion}
+use Rattle.ods_upkeep.specs.PutFor.{IsMadeFor}
 use Rattle.ods_upkeep.specs.Refused.{AreNoSources, HasPath}
 use Rattle.ods_upkeep.specs.Sources.{AreSources}
 use Rattle.ods_upkeep.specs.Target.{IsNoTarget, IsTarget}
@@ -40,12 +44,15 @@ IsFirstUncopyable user to (f ∷ found) failure =
     (IsUncopyable user to f failure.why × HasPath failure (string_bytes f.path)) ⊎ (MayBeCopied user to f × IsFirstUncopyable user to found failure)
 
 -- Why no copy with these bytes is made of a file of which this is known: no volume has as many bytes as its blocks hold, and nothing was done; or the
--- copy is not made or entered.
+-- copy is not made or entered; or it is, and does not receive the protection.
 pub data IsCopyUnmade (placing : Placing) (to : Target) (name : RadName) (stamp : List ℕ) (facts : Facts) (bytes : List ℕ) (old new : Filed) : Why → Type 0 where
   too_large : 512 * 2 ^ 20 ≤ 512 * facts.blocks → new ≡ old → IsCopyUnmade placing to name stamp facts bytes old new (Request refusal.VolumeFull)
   unfiled : (why : Why) (version : ℕ) (mid : Filed) → IsNextVersion old to.directory name to.version version mid
       → IsUnfiled placing old.user to.directory to.version (record { name = name; version = version; stamp = stamp }) (true_for facts.attributes facts.blocks) bytes mid new why
       → IsCopyUnmade placing to name stamp facts bytes old new why
+  not_given : (reason : Refusal) (version : ℕ) (mid : Filed) (file : FileId) → IsNextVersion old to.directory name to.version version mid
+      → IsMadeFor placing old.user to.directory to.version (record { name = name; version = version; stamp = stamp }) (true_for facts.attributes facts.blocks) bytes file mid new → IsWhyNotGiven new file reason
+      → IsCopyUnmade placing to name stamp facts bytes old new (Request reason)
 
 -- Why a file is not copied when its turn comes: it may not be, or its bytes are not read, and nothing was done; or no copy is made.
 pub data IsNotCopied (placing : Placing) (to : Target) (stamp : List ℕ) (found : Found) (old new : Filed) : Why → Type 0 where

@@ -10,7 +10,7 @@ use Rattle.ods_request.specs.declared.requests.Request.TheVariants.{Remove}
 use Rattle.ods_filing.specs.Filed.{Filed}
 use Rattle.ods_filing.specs.Put.{Heading}
 use Rattle.ods_upkeep.specs.HostNames.{IsNameFor, IsNoName, IsTyped, IsUntyped, title_of, type_of}
-use Rattle.ods_upkeep.specs.HostPut.{IsVersionFor}
+use Rattle.ods_upkeep.specs.HostPut.{IsFormOf, IsVersionFor}
 use Rattle.ods_upkeep.specs.Left.{InPut}
 use Rattle.ods_upkeep.specs.Looked.{IsSeen}
 use Rattle.ods_upkeep.specs.PutFor.{IsMadeFor}
@@ -20,6 +20,7 @@ use Rattle.ods_upkeep.specs.Rooms.{IsNotPlain, IsRoomMade, IsThere, counts_left,
 use Rattle.ods_upkeep.specs.Target.{IsNoName as SpellsNone}
 use Rattle.ods_upkeep.specs.Unfiled.{IsUnfiled}
 use Rattle.ods_upkeep.specs.Written.{IsUnwritten, IsWritten}
+use Rattle.ods_upkeep.specs.declared.asked.PutForm.{PutForm}
 use Rattle.ods_upkeep.specs.declared.failure.Why.{Why}
 use Rattle.ods_upkeep.specs.declared.failure.Why.TheVariants.{BadName, DirectoryType, Put}
 use Rattle.ods_upkeep.specs.declared.put_fault.PutFault.TheVariants.{Untyped}
@@ -78,13 +79,16 @@ pub record MayBeCalled (p : InPut) (host : List ℕ) (name : RadName) : Type 0 w
   pub named : IsNameFor p.target.name host name
   pub plain : name.ext ≢ directory_type
 
--- Why a host file is not put. It has no name, or one of the type DIR. Or its bytes are not written in the form. Or there is a remark, and no memory for
--- it. In each of these cases nothing was done. Or the written bytes are not put under the name.
+-- Why a host file is not put. It has no name, or one of the type DIR. Or there is no memory to read the names of the directory, for the version before.
+-- Or its bytes are not written in the form. Or there is a remark, and no memory for it. In each of these cases nothing was done. Or the written bytes
+-- are not put under the name.
 pub data IsNotPut (p : InPut) (host bytes : List ℕ) (old new : Filed) : Why → Type 0 where
   nameless : (why : Why) → IsNameless p.target.name host why → new ≡ old → IsNotPut p host bytes old new why
   of_directory : (name : RadName) → IsNameFor p.target.name host name → name.ext ≡ directory_type → new ≡ old → IsNotPut p host bytes old new DirectoryType
-  unwritten : (why : Why) (name : RadName) → MayBeCalled p host name → IsUnwritten p.form p.like bytes why → new ≡ old → IsNotPut p host bytes old new why
-  unremarked : (name : RadName) (attributes stored : List ℕ) (completed : Bool) (near : Option NearText) → MayBeCalled p host name → IsWritten p.form p.like bytes attributes stored
-      → AreSeen p.form p.like bytes completed near → ¬ IsRemarkOn completed near None → new ≡ old → IsNotPut p host bytes old new no_memory
-  unstored : (why : Why) (name : RadName) (attributes stored : List ℕ) → MayBeCalled p host name → IsWritten p.form p.like bytes attributes stored
-      → IsNotStored p name attributes stored old new why → IsNotPut p host bytes old new why
+  unread : (name : RadName) → MayBeCalled p host name → p.keeps ≡ true → new ≡ old → IsNotPut p host bytes old new no_memory
+  unwritten : (why : Why) (name : RadName) (chosen : PutForm) (own : Option (List ℕ)) → MayBeCalled p host name → IsFormOf p name bytes old chosen own → IsUnwritten chosen own bytes why → new ≡ old
+      → IsNotPut p host bytes old new why
+  unremarked : (name : RadName) (chosen : PutForm) (own : Option (List ℕ)) (attributes stored : List ℕ) (completed : Bool) (near : Option NearText) → MayBeCalled p host name → IsFormOf p name bytes old chosen own
+      → IsWritten chosen own bytes attributes stored → AreSeen chosen own bytes completed near → ¬ IsRemarkOn completed near None → new ≡ old → IsNotPut p host bytes old new no_memory
+  unstored : (why : Why) (name : RadName) (chosen : PutForm) (own : Option (List ℕ)) (attributes stored : List ℕ) → MayBeCalled p host name → IsFormOf p name bytes old chosen own
+      → IsWritten chosen own bytes attributes stored → IsNotStored p name attributes stored old new why → IsNotPut p host bytes old new why

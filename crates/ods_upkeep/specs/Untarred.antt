@@ -1,19 +1,21 @@
 -- The result of untar for a file of an archive, and why it is not put.
 use Rattle.std.specs.Fmt.{decimal}
-use Rattle.std.specs.Prelude.{◌≡◌, ◌≢◌, ◌⊎◌, ℕ, ◌%◌, ◌==◌, ◌≤◌, true, false, if◌then◌else◌, MatchBool, List, [], codes, length, replicate, Option, Some, None}
+use Rattle.std.specs.Prelude.{◌≡◌, ◌≢◌, ◌⊎◌, ℕ, ◌%◌, ◌==◌, ◌≤◌, Bool, true, false, if◌then◌else◌, MatchBool, List, [], ◌∷◌, ◌++◌, codes, length, replicate, Option, Some, None, is_some}
 use Rattle.ods_text.specs.Cuts.{cut_of}
-use Rattle.ods_base.specs.Name.{RadName}
+use Rattle.ods_base.specs.Name.{RadName, Spells}
+use Rattle.ods_base.specs.declared.name.Pick.TheVariants.{Highest}
 use Rattle.ods_base.specs.declared.file_id.FileId.{FileId}
 use Rattle.ods_files.specs.Body.{are_zeros}
 use Rattle.ods_request.specs.declared.refusals.Refusal.{Refusal}
-use Rattle.ods_paths.specs.Patterns.{has_wildcard}
+use Rattle.ods_paths.specs.Patterns.{capitals, has_wildcard}
 use Rattle.ods_paths.specs.declared.bad.BadPath.TheVariants.{Version}
 use Rattle.ods_filing.specs.Amended.{HasGiven, IsWhyNotGiven}
 use Rattle.ods_filing.specs.Filed.{Filed}
 use Rattle.ods_shell.specs.declared.path_fault.PathFault.TheVariants.{Bad}
-use Rattle.ods_upkeep.specs.HostNames.{IsHostName}
+use Rattle.ods_upkeep.specs.HostNames.{IsHostName, title_of, type_of}
 use Rattle.ods_upkeep.specs.HostPut.{IsVersionFor}
 use Rattle.ods_upkeep.specs.PutFor.{IsMadeFor}
+use Rattle.ods_upkeep.specs.Target.{IsNoName as SpellsNone}
 use Rattle.ods_upkeep.specs.Unfiled.{IsUnfiled}
 use Rattle.ods_upkeep.specs.Unput.{IsNoHostName}
 use Rattle.ods_upkeep.specs.Wayside.{IsNotOpen, IsOpen, IsParted, IsWay, StopsOnWay, path_of_way}
@@ -31,21 +33,31 @@ unless_zero n = if n == 0 then None else Some n
 abbrev pub IsVersionText : List ℕ → ℕ → Type 0
 IsVersionText digits n = (n ≤ 32767) × (digits ≡ decimal n)
 
--- The meaning of the last part of a path: a name as of a host file, and after a `;` its version. `.` is a directory.
-abbrev pub SaysFileBy : Option (List ℕ × List ℕ) → List ℕ → RadName → Option ℕ → Type 0
-SaysFileBy None last name version = (last ≢ codes ".") × IsHostName last name × (version ≡ None)
-SaysFileBy (Some cut) last name version = IsHostName cut.0 name × ((n : ℕ) × IsVersionText cut.1 n × (version ≡ unless_zero n))
+-- The name of a member: of a file of a volume, any name of a volume, even one that RSX cannot type or an empty one; otherwise a name as of a host file.
+abbrev pub IsMemberName : Bool → List ℕ → RadName → Type 0
+IsMemberName true text name = Spells (capitals (title_of text) ++ 46 ∷ capitals (type_of text)) name Highest
+IsMemberName false text name = IsHostName text name
 
-abbrev pub SaysFile : List ℕ → RadName → Option ℕ → Type 0
-SaysFile last name version = SaysFileBy (cut_of 59 last) last name version
+-- why it is no name
+abbrev pub IsNoMemberName : Bool → List ℕ → Why → Type 0
+IsNoMemberName true text why = SpellsNone (capitals (title_of text)) (capitals (type_of text)) why
+IsNoMemberName false text why = IsNoHostName text why
+
+-- The meaning of the last part of a path: the name of a member, and after a `;` its version. `.` is a directory.
+abbrev pub SaysFileBy : Option (List ℕ × List ℕ) → Bool → List ℕ → RadName → Option ℕ → Type 0
+SaysFileBy None own last name version = (last ≢ codes ".") × IsMemberName own last name × (version ≡ None)
+SaysFileBy (Some cut) own last name version = IsMemberName own cut.0 name × ((n : ℕ) × IsVersionText cut.1 n × (version ≡ unless_zero n))
+
+abbrev pub SaysFile : Bool → List ℕ → RadName → Option ℕ → Type 0
+SaysFile own last name version = SaysFileBy (cut_of 59 last) own last name version
 
 -- why it specifies no file
-abbrev pub SaysNoFileBy : Option (List ℕ × List ℕ) → List ℕ → Why → Type 0
-SaysNoFileBy None last why = ((why ≡ BadName) × (last ≡ codes ".")) ⊎ IsNoHostName last why
-SaysNoFileBy (Some cut) last why = ((why ≡ Path (Bad Version)) × ((n : ℕ) → IsVersionText cut.1 n → ⊥)) ⊎ IsNoHostName cut.0 why
+abbrev pub SaysNoFileBy : Option (List ℕ × List ℕ) → Bool → List ℕ → Why → Type 0
+SaysNoFileBy None own last why = ((why ≡ BadName) × (last ≡ codes ".")) ⊎ IsNoMemberName own last why
+SaysNoFileBy (Some cut) own last why = ((why ≡ Path (Bad Version)) × ((n : ℕ) → IsVersionText cut.1 n → ⊥)) ⊎ IsNoMemberName own cut.0 why
 
-abbrev pub SaysNoFile : List ℕ → Why → Type 0
-SaysNoFile last why = SaysNoFileBy (cut_of 59 last) last why
+abbrev pub SaysNoFile : Bool → List ℕ → Why → Type 0
+SaysNoFile own last why = SaysNoFileBy (cut_of 59 last) own last why
 
 -- attributes of zeros stay zeros if the bytes are whole blocks, since then all blocks count
 abbrev pub zeros_or : ℕ → List ℕ → List ℕ
@@ -94,7 +106,7 @@ pub record IsUntarred (stamp : List ℕ) (packed : Packed) (old new : Filed) : T
   pub parted : IsParted packed.path.now parts last
   pub name : RadName
   pub said : Option ℕ
-  pub named : SaysFile last name said
+  pub named : SaysFile (is_some packed.owner) last name said
   pub attributes : List ℕ
   pub stored : List ℕ
   pub unpacked : IsUnpacked packed.attributes packed.bytes.now attributes stored
@@ -110,11 +122,11 @@ pub record IsUntarred (stamp : List ℕ) (packed : Packed) (old new : Filed) : T
 -- directory on its way does not exist, and cannot be created. Or the directory that they reach takes no names, or it does not take the file.
 pub data IsNotUntarred (stamp : List ℕ) (packed : Packed) (old new : Filed) : Why → Type 0 where
   pattern : has_wildcard packed.path.now ≡ true → new ≡ old → IsNotUntarred stamp packed old new Several
-  nameless : (why : Why) (parts : List (List ℕ)) (last : List ℕ) → IsParted packed.path.now parts last → SaysNoFile last why → new ≡ old → IsNotUntarred stamp packed old new why
+  nameless : (why : Why) (parts : List (List ℕ)) (last : List ℕ) → IsParted packed.path.now parts last → SaysNoFile (is_some packed.owner) last why → new ≡ old → IsNotUntarred stamp packed old new why
   unwritten : (why : Why) → IsNotUnpacked packed.attributes packed.bytes.now why → new ≡ old → IsNotUntarred stamp packed old new why
   no_way : (why : Why) (parts : List (List ℕ)) (last : List ℕ) → IsParted packed.path.now parts last → StopsOnWay stamp parts [] old new why → IsNotUntarred stamp packed old new why
   closed : (why : Why) (parts : List (List ℕ)) (last way : List ℕ) → IsParted packed.path.now parts last → IsWay stamp parts [] old way new → IsNotOpen new.image new.layout (path_of_way way) why
       → IsNotUntarred stamp packed old new why
   unfiled_there : (why : Why) (parts : List (List ℕ)) (last way : List ℕ) (ready : Filed) (dir : FileId) (name : RadName) (said : Option ℕ) (attributes stored : List ℕ) → IsParted packed.path.now parts last
-      → SaysFile last name said → IsUnpacked packed.attributes packed.bytes.now attributes stored → IsWay stamp parts [] old way ready → IsOpen ready.image ready.layout (path_of_way way) dir
+      → SaysFile (is_some packed.owner) last name said → IsUnpacked packed.attributes packed.bytes.now attributes stored → IsWay stamp parts [] old way ready → IsOpen ready.image ready.layout (path_of_way way) dir
       → IsNotFiled packed dir name said attributes stored ready new why → IsNotUntarred stamp packed old new why

@@ -1,12 +1,11 @@
-//! `cp`: creates files with the blocks and the attributes of others.
+//! `cp`: creates files with the blocks, the attributes and the protection of others.
 ghost use Rattle.std.specs.Prelude.{◌≡◌, IfErr, IfOk, OnOk, Some};
 ghost use Rattle.ods_base.specs.Name.{RadName, Spells};
 ghost use Rattle.ods_base.specs.declared.name.Pick.{Pick};
 ghost use Rattle.ods_files.specs.Body.{Body, HasBody, bytes_in};
 ghost use Rattle.ods_header.specs.Text.{ident_text};
-ghost use Rattle.ods_filing.specs.Led.{IsLed};
 ghost use Rattle.ods_shell.specs.HostNames.{before_version};
-ghost use Rattle.ods_upkeep.specs.{Copied.IsCopied, Copied.IsCopiedTo, Copied.IsCopyMade, Copied.IsCopyable, Copied.IsUncopyable, Copied.IsUnread, Copied.NamesCopy, Copied.why_unread as why_for, Kinds.Copies};
+ghost use Rattle.ods_upkeep.specs.{Copied.IsCopied, Copied.IsCopiedTo, Copied.IsCopyMade, Copied.IsCopyable, Copied.IsUncopyable, Copied.IsUnread, Copied.NamesCopy, Copied.why_unread as why_for, Kinds.Copies, Legs.IsLedGiving};
 ghost use Rattle.ods_upkeep.specs.declared.asked.Placing.TheVariants.{Anywhere};
 ghost use Rattle.ods_space.specs.Files.{FindsFiles};
 ghost use Rattle.ods_space.specs.Disks.{on};
@@ -30,8 +29,8 @@ use ods_shell::{Alone, Facts, Found, Kind, PathFault, Unsaid};
 use ods_space::{ChainFault, Disk};
 use std::alloc::Global;
 
-/// Copies files to an existing directory, where they keep their names, or one file to a name: all their blocks, and their attributes. A name without
-/// a version gets its next version. `placing` determines where the blocks of the copies are allocated.
+/// Copies files to an existing directory, where they keep their names, or one file to a name: all their blocks, their attributes and their
+/// protection. A name without a version gets its next version. `placing` determines where the blocks of the copies are allocated.
 pub fn copy_files(
     alloc: Global,
     filing: &mut Filing,
@@ -40,8 +39,8 @@ pub fn copy_files(
     paths: &[&str],
     to: &str,
 ) -> Result<(), Failure>
-    // Where they may stand anywhere, it is what LookUp, Create, Extend, Write, SetUser and Enter leave.
-    ensures led { placing ≡ Anywhere → OnOk result (IsLed Copies filing.old filing.new) }
+    // Where they may stand anywhere, it is what LookUp, Create, Extend, Write, SetUser and Enter leave, with protections set in between.
+    ensures led { placing ≡ Anywhere → OnOk result (IsLedGiving Copies filing.old filing.new) }
     // Done, each file that is meant is copied to the target, and nothing else was done.
     ensures done { OnOk result (IsCopiedTo placing stamp paths.now to.now filing.old filing.new) }
     // Refused, it is so for a reason that holds, and of the path that the failure says.
@@ -85,7 +84,7 @@ fn copy_all(
     target: &Target,
     stamp: Stamp,
 ) -> Result<(), Failure>
-    ensures led { placing ≡ Anywhere → OnOk result (IsLed Copies filing.old filing.new) }
+    ensures led { placing ≡ Anywhere → OnOk result (IsLedGiving Copies filing.old filing.new) }
     ensures done { OnOk result (AreCopied placing target.now stamp all.now filing.old filing.new) }
     ensures refused { IfErr result (StopsCopying placing target.now stamp all.now filing.old filing.new) }
 {
@@ -167,7 +166,7 @@ fn copy(
     target: &Target,
     stamp: Stamp,
 ) -> Result<(), Why>
-    ensures led { placing ≡ Anywhere → OnOk result (IsLed Copies filing.old filing.new) }
+    ensures led { placing ≡ Anywhere → OnOk result (IsLedGiving Copies filing.old filing.new) }
     ensures done { OnOk result (IsCopied placing target.now stamp found.now filing.old filing.new) }
     ensures refused { IfErr result (IsNotCopied placing target.now stamp found.now filing.old filing.new) }
 {
@@ -177,7 +176,7 @@ fn copy(
     make_copy(alloc, filing, placing, target, name, stamp, &facts, &bytes)
 }
 
-/// Makes a copy of a file with these facts and bytes, and enters it in the directory of the target under this name.
+/// Makes a copy of a file with these facts and bytes, enters it in the directory of the target under this name, and gives it the protection.
 pub(crate) fn make_copy(
     alloc: Global,
     filing: &mut Filing,
@@ -188,7 +187,7 @@ pub(crate) fn make_copy(
     facts: &Facts,
     bytes: &[u8],
 ) -> Result<(), Why>
-    ensures led { placing ≡ Anywhere → OnOk result (IsLed Copies filing.old filing.new) }
+    ensures led { placing ≡ Anywhere → OnOk result (IsLedGiving Copies filing.old filing.new) }
     ensures done { OnOk result (IsCopyMade placing target.now name stamp facts.now bytes.now filing.old filing.new) }
     ensures refused { IfErr result (IsCopyUnmade placing target.now name stamp facts.now bytes.now filing.old filing.new) }
 {
@@ -202,7 +201,7 @@ pub(crate) fn make_copy(
         attributes,
         bytes,
     };
-    let _copy = put_new(
+    let copy = put_new(
         alloc,
         filing,
         placing,
@@ -211,7 +210,10 @@ pub(crate) fn make_copy(
         target.version,
         &file,
     )?;
-    Ok(())
+    match filing.set_access(copy, None, Some(facts.protection)) {
+        Ok(()) => Ok(()),
+        Err(refusal) => Err(Why::Request(refusal)),
+    }
 }
 
 /// The bytes of all blocks of a file.

@@ -1,10 +1,10 @@
 //! `cp --from`: copies whole files of another volume, which a mount may refuse, into this one.
 ghost use Rattle.std.specs.Prelude.{◌≡◌, [], true, IfErr, MatchResult, OnOk, Some};
 ghost use Rattle.std.specs.List.{All};
-ghost use Rattle.ods_filing.specs.Led.{IsLed};
 ghost use Rattle.ods_space.specs.Files.{FindsFiles};
 ghost use Rattle.ods_space.specs.Disks.{on};
 ghost use Rattle.ods_upkeep.specs.Kinds.{Copies};
+ghost use Rattle.ods_upkeep.specs.Legs.{IsLedGiving};
 ghost use Rattle.ods_upkeep.specs.CopiedFrom.{AreAllCopiedOver, AreCopiedOver, AreFilesFrom, FindsNoTwins, IsCopiedFrom, IsCopiedOver, IsLedFrom, are_passed_over, copied_of, own_version, stamp_for as date_of, target_for as place_of, version_for};
 ghost use Rattle.ods_upkeep.specs.UncopiedFrom.{AreAllPassed, AreNoFilesFrom, AreNotCopiedOver, HasTwinned, IsNotCopiedFrom, IsNotCopiedOver, IsTwinned, StopsCopyingOver, passed_why};
 ghost use Rattle.ods_upkeep.specs.declared.asked.Placing.TheVariants.{Anywhere};
@@ -23,9 +23,9 @@ use ods_shell::{Alone, Facts, Found, Kind, Unsaid, find_path, have_twins};
 use ods_space::Disk;
 use std::alloc::Global;
 
-/// Copies files of another volume to a directory of this one, or one file to a name there: all their blocks, their attributes, and their dates of
-/// creation. `stamp` replaces a date that is not valid. Directories and the other volume's own files are passed over, and refused if nothing else is
-/// found. A path that finds two entries of one directory with one name and version is refused.
+/// Copies files of another volume to a directory of this one, or one file to a name there. A copy has all their blocks, their attributes, their
+/// protection and their dates of creation. `stamp` replaces a date that is not valid. Directories and the other volume's own files are passed over,
+/// and refused if nothing else is found. A path that finds two entries of one directory with one name and version is refused.
 pub fn copy_from(
     alloc: Global,
     filing: &mut Filing,
@@ -36,7 +36,8 @@ pub fn copy_from(
     to: &str,
 ) -> Result<(), Failure>
     requires { on FindsFiles other.now }
-    // Where the blocks may stand anywhere, it is what LookUp, Create, Extend, Write, SetUser and Enter leave, behind a growth of INDEXF.SYS.
+    // Where the blocks may stand anywhere, it is what LookUp, Create, Extend, Write, SetUser and Enter leave, with protections set in between, behind
+    // a growth of INDEXF.SYS.
     ensures led { how.placing ≡ Some Anywhere → OnOk result (IsLedFrom filing.old filing.new) }
     // Done, each file that is found on the other volume is copied to the target. Nothing else was done, but that INDEXF.SYS may have grown for them.
     ensures done { OnOk result (on IsCopiedFrom other.now how stamp paths.now to.now filing.old filing.new) }
@@ -158,7 +159,7 @@ fn copy_all_over(
     stamp: Stamp,
 ) -> Result<(), Failure>
     requires { on FindsFiles other.now }
-    ensures led { how.now.placing ≡ Some Anywhere → OnOk result (IsLed Copies filing.old filing.new) }
+    ensures led { how.now.placing ≡ Some Anywhere → OnOk result (IsLedGiving Copies filing.old filing.new) }
     ensures done { OnOk result (on AreCopiedOver other.now how.now target.now stamp all.now filing.old filing.new) }
     ensures refused { IfErr result (on StopsCopyingOver other.now how.now target.now stamp all.now filing.old filing.new) }
 {
@@ -181,7 +182,7 @@ fn copy_over(
     stamp: Stamp,
 ) -> Result<(), Why>
     requires { on FindsFiles other.now }
-    ensures led { how.now.placing ≡ Some Anywhere → OnOk result (IsLed Copies filing.old filing.new) }
+    ensures led { how.now.placing ≡ Some Anywhere → OnOk result (IsLedGiving Copies filing.old filing.new) }
     ensures done { OnOk result (on IsCopiedOver other.now how.now target.now stamp found.now filing.old filing.new) }
     ensures refused { IfErr result (on IsNotCopiedOver other.now how.now target.now stamp found.now filing.old filing.new) }
 {

@@ -26,8 +26,8 @@ use ods_shell::{Found, Kind, PathFault};
 use ods_text::is_text;
 use std::alloc::Global;
 
-/// Creates directories, each with room for `names` names, or one block, and enters them under version 1 in order: a later one may be below an earlier
-/// one. The owner is `owner` if given, otherwise the group and member in the name, otherwise the user. The user enters the directory.
+/// Creates directories, each with room for `names` names, or one block. They are entered under version 1 in order, so a later one may be below an
+/// earlier one. The owner is `owner` if given, otherwise the group and member in the name, otherwise the user. The user enters the directory.
 pub fn make_directories(
     alloc: Global,
     filing: &mut Filing,

@@ -1,7 +1,7 @@
 //! Laws of the commands, over the definitions: each is the contract of a function with no body.
 ghost use Rattle.ods_upkeep.specs.CopiesThere.{CopiedIsThere, CopiedTreeIsThere, CopiesAreThere, CopyIsThere};
 ghost use Rattle.ods_upkeep.specs.Laws.{AppendPutsBehind, GetGivesWhatWasPut, MvThereAndBack, RmUndoesPut};
-ghost use Rattle.ods_upkeep.specs.PutBack.{LeafComesBack, TreeComesBack};
+ghost use Rattle.ods_upkeep.specs.PutBack.{KeptComesBack, LeafComesBack, TreeComesBack};
 
 /// Appended bytes come after the old bytes of the file, and its attributes state that it ends there; nothing else changes.
 pub fn append_puts_behind()
@@ -23,7 +23,8 @@ pub fn get_gives_what_was_put()
     ensures { GetGivesWhatWasPut }
 {}
 
-/// A file copied from another volume has all bytes of its blocks, its attributes, its name and its version. Nothing that was here is lost.
+/// A file copied from another volume has all bytes of its blocks, its attributes, its protection, its name and its version. Nothing that was here is
+/// lost.
 pub fn copy_is_there()
     ensures { CopyIsThere }
 {}
@@ -48,7 +49,12 @@ pub fn leaf_comes_back()
     ensures { LeafComesBack }
 {}
 
-/// Folders and files of a tree that are put in order are all there at the end, and `get` gives the bytes of each file back.
+/// Folders and files of a tree that are put in order are all there at the end. `get` gives the bytes of each file back.
 pub fn tree_comes_back()
     ensures { TreeComesBack }
+{}
+
+/// A file in the form that `put` keeps of the version before gives exactly the bytes of the host file.
+pub fn kept_comes_back()
+    ensures { KeptComesBack }
 {}

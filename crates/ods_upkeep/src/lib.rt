@@ -15,6 +15,7 @@ mod failure;
 mod giving;
 mod hidden;
 mod host_names;
+mod keeping;
 mod laws;
 mod like_files;
 mod looking;
@@ -51,7 +52,8 @@ pub use failure::{Failure, Why};
 pub use giving::{give_owner, give_protection};
 pub use laws::{
     append_puts_behind, copied_is_there, copied_tree_is_there, copies_are_there, copy_is_there,
-    get_gives_what_was_put, leaf_comes_back, mv_there_and_back, rm_undoes_put, tree_comes_back,
+    get_gives_what_was_put, kept_comes_back, leaf_comes_back, mv_there_and_back, rm_undoes_put,
+    tree_comes_back,
 };
 pub use moving::move_names;
 pub use purging::purge_files;

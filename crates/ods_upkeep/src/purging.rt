@@ -23,8 +23,8 @@ const EVERY_VERSION: Unsaid = Unsaid {
     alone: Alone::Refused,
 };
 
-/// Keeps the `keep` highest versions of each name that the paths find, and removes the others like `remove_files`: their entries, and each file that
-/// no entry names any more. Directories and the volume's own files stay. A path with versions, or with an ID, is refused.
+/// Keeps the `keep` highest versions of each name that the paths find, and removes the others. As `remove_files` does, it removes their entries, and
+/// each file that no entry names any more. Directories and the volume's own files stay. A path with versions, or with an ID, is refused.
 pub fn purge_files(
     alloc: Global,
     filing: &mut Filing,

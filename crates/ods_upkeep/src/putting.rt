@@ -1,15 +1,16 @@
 //! `put`: puts files of the host one by one.
-ghost use Rattle.std.specs.Prelude.{◌≡◌, is_some, not, ◌&&◌, true, None, IfErr, IfOk, MatchResult, OnOk};
+ghost use Rattle.std.specs.Prelude.{◌≡◌, is_some, not, ◌&&◌, false, true, None, IfErr, IfOk, MatchResult, OnOk};
 ghost use Rattle.ods_filing.specs.Led.{IsLed};
-ghost use Rattle.ods_upkeep.specs.{Begun.AreKept, Begun.AreNames, Begun.IsBegun, Begun.count_of, Begun.path_to};
-ghost use Rattle.ods_upkeep.specs.{HostPut.AreCountedOn, HostPut.AreNotedOn, HostPut.IsHostPut, HostPut.IsPutAs, HostPut.IsStill, HostPut.IsVersionFor};
+ghost use Rattle.ods_upkeep.specs.{Begun.AreKept, Begun.AreNames, Begun.IsBegun, Begun.count_of, Begun.keeps_form, Begun.path_to};
+ghost use Rattle.ods_upkeep.specs.{HostPut.AreCountedOn, HostPut.AreNotedOn, HostPut.IsFormFor, HostPut.IsHostPut, HostPut.IsPutAs, HostPut.IsRemarkFor, HostPut.IsStill, HostPut.IsVersionFor};
 ghost use Rattle.ods_upkeep.specs.declared.asked.Placing.TheVariants.{Anywhere};
-ghost use Rattle.ods_upkeep.specs.{Kinds.Puts, Left.at_time, Left.replaces, PutFor.IsPut, Ready.MayHaveGrown, Refused.HasPath, Refused.IsOutOfMemory, Refused.no_memory, Remarks.IsRemark, Remarks.IsRemarkOn};
+ghost use Rattle.ods_upkeep.specs.{Kinds.Puts, Left.at_time, Left.replaced_version, Left.replaces, PutFor.IsPut, Ready.MayHaveGrown, Refused.HasPath, Refused.IsOutOfMemory, Refused.no_memory, Remarks.IsRemarkOn};
 ghost use Rattle.ods_upkeep.specs.{Unbegun.IsNotBegun, Unput.IsNotPut, Unput.IsNotStored, Written.bytes_of};
 
 use crate::asking::put_new;
 use crate::failure::{Failure, Why, of_path};
 use crate::host_names::name_for;
+use crate::keeping::{attributes_before, kept_form};
 use crate::like_files::{attributes_in, like_facts, placing_by};
 use crate::looking::next_version;
 use crate::names::Names;
@@ -35,6 +36,8 @@ pub struct Putting {
     stamp: Stamp,
     form: PutForm,
     like: Option<[u8; 32]>,
+    /// Whether a file keeps the form of the version before it.
+    keeps: bool,
     placing: Placing,
     /// The owner of the new files, if it differs from the requesting user.
     owner: Option<Uic>,
@@ -49,7 +52,7 @@ impl Model for Putting {
 
     ghost Value = { InPut };
 
-    ghost view = { λ p. record { target = p.target; stamp = p.stamp; form = p.form; like = p.like; placing = p.placing; owner = p.owner; names = p.names; highest = p.highest } };
+    ghost view = { λ p. record { target = p.target; stamp = p.stamp; form = p.form; like = p.like; keeps = p.keeps; placing = p.placing; owner = p.owner; names = p.names; highest = p.highest } };
 }
 
 impl Putting {
@@ -57,6 +60,7 @@ impl Putting {
     /// written like the records of that file. As bytes, they get all its attributes except the end of file. `placing` determines the location of the
     /// blocks; without it, they are in one piece if that file is contiguous. With `replace`, a file with the name, and with the given version or else
     /// the highest, makes room for the new one. With `owner` that user owns and makes the new files; the requesting user enters them.
+    /// With `ByContents` and without `like`, a file keeps the form of the version before it, if `get` then gives the bytes of the host file.
     pub fn begin(
         alloc: Global,
         volume: &Mounted,
@@ -82,6 +86,7 @@ impl Putting {
             stamp,
             form,
             like: attributes_in(&facts),
+            keeps: keeps_form(form, like),
             placing: placing_by(placing, &facts),
             owner,
             names,
@@ -121,7 +126,7 @@ impl Putting {
         // Where no owner is said, and blocks may stand anywhere, it is what LookUp, Create, Extend, Write, SetUser and Enter leave, and where files are replaced, Stat, Remove and Delete besides.
         ensures own { self.old.owner ≡ None → self.old.placing ≡ Anywhere → OnOk result (IsLed (Puts (replaces self.old)) filing.old filing.new) }
         ensures still { IsStill self.old self.new }
-        ensures remark { IfOk result (IsRemark self.old.form self.old.like host.now.bytes.now) }
+        ensures remark { IfOk result (IsRemarkFor self.old host.now.name.now host.now.bytes.now filing.old) }
         // Refused, it is so for a reason that holds, of the host file, and what was done for that is said.
         ensures refused { IfErr result (λ failure. IsNotPut self.old host.now.name.now host.now.bytes.now filing.old filing.new failure.why × HasPath failure host.now.name.now) }
     {
@@ -139,13 +144,14 @@ impl Putting {
         placing: Placing,
         whose: Option<Uic>,
     ) -> Putting
-        ensures { result ≡ record { target = target; stamp = stamp; form = form; like = None; placing = placing; owner = whose; names = None; highest = None } }
+        ensures { result ≡ record { target = target; stamp = stamp; form = form; like = None; keeps = false; placing = placing; owner = whose; names = None; highest = None } }
     {
         Putting {
             target,
             stamp,
             form,
             like: None,
+            keeps: false,
             placing,
             owner: whose,
             names: None,
@@ -162,14 +168,26 @@ impl Putting {
     ) -> Result<Option<String>, Why>
         ensures done { OnOk result (IsHostPut self.old host.now.name.now host.now.bytes.now filing.old self.new filing.new) }
         ensures still { IsStill self.old self.new }
-        ensures remark { IfOk result (IsRemark self.old.form self.old.like host.now.bytes.now) }
+        ensures remark { IfOk result (IsRemarkFor self.old host.now.name.now host.now.bytes.now filing.old) }
         ensures refused { IfErr result (IsNotPut self.old host.now.name.now host.now.bytes.now filing.old filing.new) }
     {
         let name = name_for(alloc, self.target.name, host.name)?;
         if name.ext() == DIRECTORY_TYPE {
             return Err(Why::DirectoryType);
         }
-        let written = write_host(alloc, self.form, &self.like, host.bytes)?;
+        let (form, like) = form_for(
+            alloc,
+            filing,
+            self.keeps,
+            self.form,
+            &self.like,
+            self.target.directory,
+            &name,
+            &self.names,
+            self.target.version,
+            host.bytes,
+        )?;
+        let written = write_host(alloc, form, &like, host.bytes)?;
         let remark = remark(alloc, &written)?;
         self.put_written(alloc, filing, name, &written)?;
         Ok(remark)
@@ -228,6 +246,48 @@ fn keeps_versions(several: bool, replace: bool) -> bool
     ensures { result ≡ (several && not replace) }
 {
     several && !replace
+}
+
+/// Whether files keep the form of the version before: no form is said, and no model file.
+fn keeps_form(form: PutForm, like: Option<&str>) -> bool
+    ensures { result ≡ keeps_form form like.entry }
+{
+    form == PutForm::ByContents && like.is_none()
+}
+
+/// The version that is replaced, where files are replaced and a version is said.
+fn replaced_version(names: &Option<Names>, said: Option<u16>) -> Option<u16>
+    ensures { result ≡ replaced_version names.now said }
+{
+    match names {
+        Some(_) => said,
+        None => None,
+    }
+}
+
+/// The form in which a file is put, and the attributes of its model file: those that are said, or those that it keeps of the version before.
+fn form_for(
+    alloc: Global,
+    filing: &Filing,
+    keeps: bool,
+    form: PutForm,
+    like: &Option<[u8; 32]>,
+    dir: FileId,
+    name: &Name,
+    names: &Option<Names>,
+    said: Option<u16>,
+    bytes: &[u8],
+) -> Result<(PutForm, Option<[u8; 32]>), Why>
+    ensures ok { IfOk result (λ r. IsFormFor keeps form like.now dir name.now names.now said bytes.now filing.now r.0 r.1) }
+    ensures err { IfErr result (λ why. (why ≡ no_memory) × (keeps ≡ true)) }
+{
+    if !keeps {
+        return Ok((form, *like));
+    }
+    let disk = filing.disk();
+    let said = replaced_version(names, said);
+    let before = attributes_before(alloc, &disk, dir, name, said)?;
+    Ok(kept_form(&before, bytes))
 }
 
 /// How many entries name each file, where that is asked for.

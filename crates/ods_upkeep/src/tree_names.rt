@@ -1,4 +1,5 @@
-//! Names of a tree of the host, as `get -r` writes them: the directory and the file of the volume that a path specifies, or why it specifies none.
+//! Names of a tree of the host, as `get -r` writes them. A path specifies a directory and a file of the volume, or there is a reason why it specifies
+//! none.
 ghost use Rattle.std.specs.Prelude.{◌≡◌, ℕ, List, IfOk, IfErr, MatchResult};
 ghost use Rattle.ods_upkeep.specs.TreeNames.{AreFolderNames, IsFolderName, IsNoFolderName, IsNoTreeName, IsSaidVersion, IsTreeName, SaysKind, SaysFolders, SaysNoFolders, SaysNoKind, SaysNoPlace, SaysPlace};
 ghost use Rattle.ods_upkeep.specs.Wayside.{IsParted};

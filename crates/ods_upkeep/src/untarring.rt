@@ -1,18 +1,19 @@
 //! `untar`: puts the files of an archive one by one.
-ghost use Rattle.std.specs.Prelude.{◌≡◌, ℕ, length, None, IfErr, MatchOption, MatchResult, OnOk};
+ghost use Rattle.std.specs.Prelude.{◌≡◌, ℕ, length, true, None, IfErr, MatchOption, MatchResult, OnOk};
 ghost use Rattle.ods_text.specs.Cuts.{cut_of};
 ghost use Rattle.ods_text.specs.One.{IsTheOne};
 ghost use Rattle.ods_upkeep.specs.HostPut.{IsVersionFor};
 ghost use Rattle.ods_upkeep.specs.Refused.{HasPath};
-ghost use Rattle.ods_upkeep.specs.Untarred.{IsFiled, IsNotFiled, IsNotUnpacked, IsNotUntarred, IsUnpacked, IsUntarred, IsVersionText, SaysFile, SaysNoFile, unless_zero as unless_none, zeros_or};
+ghost use Rattle.ods_upkeep.specs.Untarred.{IsFiled, IsMemberName, IsNoMemberName, IsNotFiled, IsNotUnpacked, IsNotUntarred, IsUnpacked, IsUntarred, IsVersionText, SaysFile, SaysNoFile, unless_zero as unless_none, zeros_or};
 ghost use Rattle.ods_upkeep.specs.Written.{bytes_of};
 
 use crate::asking::put_new;
 use crate::attributes::are_zeros;
 use crate::failure::{Failure, Why, of_path};
-use crate::host_names::name_for;
+use crate::host_names::{name_for, parts};
 use crate::looking::next_version;
 use crate::on_the_way::{last_part, make_way, open_directory, path_of_way};
+use crate::targets::name_of;
 use crate::written::{Written, write_host};
 use crate::{Placing, PutForm};
 use ods_base::{FileId, Name, Uic};
@@ -26,7 +27,8 @@ use std::alloc::Global;
 /// A file of an archive.
 #[derive(Clone, Copy)]
 pub struct Packed<'a> {
-    /// Its path: names of directories, each followed by a slash, and its name, which may have a `;` and a version.
+    /// Its path: names of directories, each followed by a slash, and its name, which may have a `;` and a version. With an owner, the name may be
+    /// any name of a volume.
     pub path: &'a str,
     /// Its bytes.
     pub bytes: &'a [u8],
@@ -73,29 +75,47 @@ fn untar_one(
     if has_wildcard(packed.path.as_bytes()) {
         return Err(Why::Several);
     }
-    let (name, said) = file_said(alloc, last_part(packed.path))?;
+    let (name, said) = file_said(alloc, packed.owner.is_some(), last_part(packed.path))?;
     let written = unpack(alloc, &packed.attributes, packed.bytes)?;
     let way = make_way(alloc, filing, stamp, packed.path)?;
     let dir = open_directory(alloc, filing.mounted(), path_of_way(way.as_str()))?;
     file_in(alloc, filing, packed, dir, name, said, &written)
 }
 
-/// The name that the last part of a path says, and the version, where it says one.
-fn file_said(alloc: Global, last: &str) -> Result<(Name, Option<u16>), Why>
-    ensures { MatchResult result (λ r. SaysFile last.now r.0 r.1) (SaysNoFile last.now) }
+/// The name that the last part of a path says, and the version, where it says one. `own` is whether the member is a file of a volume.
+fn file_said(alloc: Global, own: bool, last: &str) -> Result<(Name, Option<u16>), Why>
+    ensures { MatchResult result (λ r. SaysFile own last.now r.0 r.1) (SaysNoFile own last.now) }
 {
     let Some((front, digits)) = cut_version(last) else {
         if last == "." {
             return Err(Why::BadName);
         }
-        let name = name_for(alloc, None, last)?;
+        let name = member_name(alloc, own, last)?;
         return Ok((name, None));
     };
     let Some(version) = version_in(digits) else {
         return Err(Why::Path(PathFault::Bad(BadPath::Version)));
     };
-    let name = name_for(alloc, None, front)?;
+    let name = member_name(alloc, own, front)?;
     Ok((name, unless_zero(version)))
+}
+
+/// The name of a member: of a file of a volume, any name of a volume; otherwise a name as of a host file.
+fn member_name(alloc: Global, own: bool, text: &str) -> Result<Name, Why>
+    ensures { MatchResult result (IsMemberName own text.now) (IsNoMemberName own text.now) }
+{
+    if !own {
+        return name_for(alloc, None, text);
+    }
+    own_name(alloc, text)
+}
+
+/// The name of a file of a volume, as `tar` writes it.
+fn own_name(alloc: Global, text: &str) -> Result<Name, Why>
+    ensures { MatchResult result (IsMemberName true text.now) (IsNoMemberName true text.now) }
+{
+    let (title, kind) = parts(text.as_bytes());
+    name_of(alloc, title, kind)
 }
 
 /// The version in decimal digits, at most 32767.

@@ -118,8 +118,8 @@ fn fits(own: &[u8; 32], bytes: &[u8]) -> Result<(), PutFault>
     Ok(())
 }
 
-/// Whether these bytes are put as records.
-fn is_put_as_text(form: PutForm, like: &Option<[u8; 32]>, bytes: &[u8]) -> bool
+/// Returns whether these bytes are put as records.
+pub(crate) fn is_put_as_text(form: PutForm, like: &Option<[u8; 32]>, bytes: &[u8]) -> bool
     ensures { IsTrue result ↔ ArePutAsText form like.now bytes.now }
 {
     if let Some(attributes) = like {

@@ -1,4 +1,4 @@
-//! The directories of a volume, sound or refused, as listings show them: the lines of one directory in listing order, and the walk over all
+//! The directories of a volume, sound or refused, as listings show them. A listing has the lines of one directory in order; a walk has all
 //! directories below one.
 #![tactic(auto)]
 

@@ -16,8 +16,8 @@ used: mark blocks of files as used that are marked as free
 share: move runs of blocks that a file shares with an earlier file to free blocks
 double: give the later of two entries with the same name and version the next version
 names: remove entries that name no file
-lost: enter files that no directory names in a directory
 free: mark blocks as free that are marked as used and belong to no file
+lost: enter files that no directory names in a directory
 all: all of these";
 
 /// How `repair` is written.

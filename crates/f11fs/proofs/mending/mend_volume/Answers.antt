@@ -1,26 +1,12 @@
-use Rattle.std.proofs.Common.{◌∙◌, inl, subst}
-use Rattle.ods_mount.specs.Sound.{IsSoundBy}
-use Rattle.f11fs.specs.Mended.{IsSoundWhollyMended, LeavesSound}
+use Rattle.std.proofs.Common.{IfOk, subst}
+use Rattle.f11fs.specs.Mended.{IsMountedWhollyMended, LeavesMounted, Wholly}
 use Rattle.f11fs.proofs.mending.mend_volume.Goals as goal
 
-pub returns-clause-leaves : goal.returns-clause-leaves
-returns-clause-leaves c = inl (
-  c.args.volume.layout,
-  c.mend_sound.new.filing,
-  subst (λ I. IsSoundBy I c.args.volume.layout) c.disk.ensures.image (subst (λ L. IsSoundBy c.disk.result.image.now L) c.disk.ensures.layout c.disk.ensures.sound),
-  subst (λ f. LeavesSound c.args.wishes.now.kinds c.args.wishes.now.stamp c.args.wishes.now.into f c.mend_sound.new.filing) c.in_ok-filing.ensures c.in_ok-mend_sound.ensures.leaves,
-  c.into_parts-image.ensures.value.0 ∙ c.into_mounted.ensures.0,
-)
+pub returns-in-Ok-clause-leaves : goal.returns-in-Ok-clause-leaves
+returns-in-Ok-clause-leaves c =
+    subst (λ I. IfOk c.mend_shared.result (LeavesMounted c.args.wishes.now.kinds c.args.wishes.now.stamp c.args.wishes.now.into I)) c.in-Ok.ensures.ok.0 c.mend_shared.ensures.leaves
 
-pub returns-clause-whole : goal.returns-clause-whole
-returns-clause-whole c = λ now.
-    let all = c.in_ok-mend_sound.ensures.whole now in (
-      all.0,
-      (
-        c.args.volume.layout,
-        c.mend_sound.new.filing,
-        subst (λ I. IsSoundBy I c.args.volume.layout) c.disk.ensures.image (subst (λ L. IsSoundBy c.disk.result.image.now L) c.disk.ensures.layout c.disk.ensures.sound),
-        subst (λ f. IsSoundWhollyMended c.args.wishes.now.kinds c.args.wishes.now.stamp c.args.wishes.now.into f c.mend_sound.new.filing) c.in_ok-filing.ensures all.1,
-        c.into_parts-image.ensures.value.0 ∙ c.into_mounted.ensures.0,
-      ),
-    )
+pub returns-in-Ok-clause-whole : goal.returns-in-Ok-clause-whole
+returns-in-Ok-clause-whole c =
+    subst (λ I. IfOk c.mend_shared.result (λ J. Wholly c.args.report.now.is_left c.mend_shared.new.report.is_left (IsMountedWhollyMended c.args.wishes.now.kinds c.args.wishes.now.stamp c.args.wishes.now.into I J)))
+    c.in-Ok.ensures.ok.0 c.mend_shared.ensures.whole

@@ -8,8 +8,8 @@ loop-host-init g c = (omega arith, (refl, refl))
 pub loop-host-preserved : goal.loop-host-preserved
 loop-host-preserved g c = (
   omega (arith, c.loop-host-test.true),
-  put_next (is_some c.args.zone.now) c.args.stamp c.args.putting.now c.loop-host.putting c.set_time.new.self c.put_one.new.putting c.host_time.result c.args.hosts.now c.loop-host.host-index _ _
-      c.args.filing.now c.loop-host.filing c.put_one.new.filing c.set_time.ensures c.host_time.ensures c.in_ok-put_one.ensures.done c.loop-host-test.true c.loop-host.invariant.1,
+  put_next (is_some c.args.zone.now) c.args.stamp c.args.putting.now c.loop-host.putting c.set_time.new.self c.put_one.new.putting c.in_ok-time.time c.args.hosts.now c.loop-host.host-index _ _
+      c.args.filing.now c.loop-host.filing c.put_one.new.filing c.set_time.ensures c.in_ok-time.ensures.done c.in_ok-put_one.ensures.done c.loop-host-test.true c.loop-host.invariant.1,
 )
 
 pub returns-clause-done : goal.returns-clause-done

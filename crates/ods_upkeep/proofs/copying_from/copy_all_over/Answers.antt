@@ -1,14 +1,14 @@
 use Rattle.std.proofs.Common.{refl, subst, sym}
 use Rattle.std.proofs.lemmas.List.{drop_all}
-use Rattle.ods_filing.proofs.Led.{stays, then_led}
 use Rattle.ods_upkeep.specs.CopiedFrom.{AreCopiedOver}
 use Rattle.ods_upkeep.specs.Refused.{HasPath}
 use Rattle.ods_upkeep.specs.UncopiedFrom.{IsNotCopiedOver}
 use Rattle.ods_upkeep.proofs.CopiesOver.{over_on, stops_over_here, stops_over_on}
+use Rattle.ods_upkeep.proofs.Legs.{no_legs, then_legs}
 use Rattle.ods_upkeep.proofs.copying_from.copy_all_over.Goals as goal
 
 pub loop-found-init : goal.loop-found-init
-loop-found-init c = record { led = λ anywhere. stays c.args.filing.now; copies = λ new copied. copied; stops = λ new failure stop. stop }
+loop-found-init c = record { led = λ anywhere. no_legs c.args.filing.now; copies = λ new copied. copied; stops = λ new failure stop. stop }
 
 pub loop-found-preserved : goal.loop-found-preserved
 loop-found-preserved c =
@@ -18,7 +18,7 @@ loop-found-preserved c =
     let one = c.in_default.ensures in
     let item = c.found-item in
     record {
-      led = λ anywhere. then_led (so_far.led anywhere) (one.led anywhere);
+      led = λ anywhere. then_legs (so_far.led anywhere) (one.led anywhere);
       copies = λ new copied. so_far.copies new
           (over_on I L c.args.how.now c.args.target.now c.args.stamp c.args.all.now c.loop-found.found-index item.result c.loop-found.filing c.copy_over.new.filing new c.loop-found-test.true item.is one.done copied);
       stops = λ new failure stop. so_far.stops new failure
