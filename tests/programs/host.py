@@ -322,11 +322,9 @@ class Host(Disk):
         self.assertEqual(self.names(), ["disk", "new"], "files of the host")
 
     def test_block_device(self) -> None:
-        if os.geteuid() != 0:
-            return
-        made = subprocess.run(["losetup", "--find", "--show", self.image], capture_output=True)
-        if made.returncode != 0:
-            return
+        made = subprocess.run(["losetup", "--find", "--show", self.image], capture_output=True) if shutil.which("losetup") else None
+        if not made or made.returncode:
+            self.skipTest("no loop device can be made")
         device = made.stdout.decode().strip()
         try:
             self.assertEqual(self.f11fs("--stamp", STAMP, device, "mkdir", "NEW"), (3, b"", f"f11fs: {device}: it is not a regular file\n".encode()), "a change")
