@@ -30,7 +30,7 @@ line() {
     record ${#1} "$1"
 }
 
-at 18 init RX01 --label SAMPLE --files 30
+at 18 init 494 --label SAMPLE --files 30
 at 18 mkdir -q 1,2 FORT FORT/SRC
 printf 'Volume SAMPLE\n\nA text in two versions, a listing, a module.\n' >notes.txt
 at 19 put notes.txt 1,2/

@@ -545,6 +545,14 @@ def many_volume() -> bytes:
     return volume.bytes()
 
 
+def linked_volume() -> bytes:
+    """A volume with a text that two entries name."""
+    volume = Volume()
+    volume.directory(4, "000000.DIR;1", *entries(f"000000.DIR;1 4,4 {RESERVED} A.TXT;1 9,1 B.TXT;1 9,1"))
+    volume.file(9, "A.TXT;1", variable(b"first"), control=2, size=5, rights=0o177400)
+    return volume.bytes()
+
+
 def spaced_volume() -> bytes:
     """The plain volume with a name that has a space in it, as RSX cannot type it; f11fs shows it as _."""
     volume = plain_volume()
@@ -571,6 +579,7 @@ NAMED: dict[str, Callable[[], bytes]] = {
     "scattered": lambda: plain_volume(blocks=600).bytes(used=range(100, 600, 2)),  # a large file has many pointers
     "pieces": pieces_volume,
     "many": many_volume,
+    "linked": linked_volume,
     "spaced": spaced_volume,
     "old": lambda: old_volume().bytes(),
     "shut-notes": lambda: plain_volume(rights=0xFE80, owner=0o200 << 8 | 0o40).bytes(),

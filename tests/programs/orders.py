@@ -137,6 +137,11 @@ def init_makes_one(room: Disk, order: str) -> None:
     size, tracks, count, _, _ = ORDERS[order]
     room.assertEqual(room.image.read_bytes(), floppy(order, plain, bytes(size * tracks * count)), "the new floppy")
     room.assertEqual(room.f11fs("disk", "check", "--all"), (0, b"sound\n", b""), "check")
+    # simh attaches the floppies of an RX01 and an RX02 in this order, and those of an RX50 block by block.
+    of_device = plain if order == "rx50" else room.image.read_bytes()
+    for made, words, content in (("small", [order], of_device), ("large", [order.upper()], of_device), ("blocks", ["--order", "plain", order], plain)):
+        room.does("--stamp", STAMP, *words[:-1], made, "init", words[-1])
+        room.assertEqual((room.folder / made).read_bytes(), content, f"init {words}")
 
 
 class Orders(Disk):

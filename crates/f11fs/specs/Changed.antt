@@ -116,7 +116,7 @@ IsNoLabel text = ¬ IsTrue (is_label_text text)
 abbrev pub IsChanged : Change → List (Bor (List ℕ)) → List ℕ → Filed → Filed → Type 0
 IsChanged (change.Put how) words stamp old new = (said : Bool) × PutsBelow how.below said how words stamp old new
 IsChanged change.Untar words stamp old new = (said : Bool) × AreUntarred said words stamp old new
-IsChanged (change.CpFrom how) words stamp old new = CopiesBelow how.below how.contiguous how.next words stamp old new
+IsChanged (change.CpFrom how) words stamp old new = (said : Bool) × CopiesBelow how.below said how.contiguous how.next words stamp old new
 IsChanged (change.Cp contiguous) words stamp old new = CopiesToLast (placing_for contiguous) words stamp old new
 IsChanged change.Mv words stamp old new = MovesToLast words old new
 IsChanged (change.Rm entry_alone newest) words stamp old new = IsRemoved entry_alone newest words old new

@@ -1,28 +1,35 @@
 -- What a cp of the files of another image leaves.
-use Rattle.std.specs.Prelude.{◌≡◌, ℕ, Bool, true, false, List, [], ◌∷◌, ◌++◌, Option}
+use Rattle.std.specs.Prelude.{◌≡◌, ℕ, Bool, true, false, List, [], ◌∷◌, ◌++◌, Option, Some, None}
 use Rattle.std.specs.Borrow.{Bor}
 use Rattle.std.specs.Option.{option_map}
+use Rattle.ods_base.specs.declared.file_id.Uic.{Uic}
 use Rattle.ods_filing.specs.Filed.{Filed}
 use Rattle.ods_upkeep.specs.CopiedFrom.{IsCopiedFromSome}
 use Rattle.ods_upkeep.specs.CopiedTree.{IsTreeCopiedFromSome}
 use Rattle.ods_upkeep.specs.declared.asked.CopyFrom.{CopyFrom}
 use Rattle.f11fs.specs.Forms.{placing_for}
 
--- how files are copied: in one piece or anywhere, if it is specified, and under the next version of each name if it is requested
-abbrev pub copying_said : Option Bool → Bool → CopyFrom
-copying_said contiguous next = record { placing = option_map placing_for contiguous; next = next }
+-- whose rights are checked on the other volume: those of the user in force, if the words specify one; otherwise it is read as its keeper, without rights
+abbrev pub reader_for : Bool → Uic → Option Uic
+reader_for true user = Some user
+reader_for false user = None
 
--- The files that these words but the last find on another volume are copied to the last one. Only the host knows that the volume is the one of the
--- named image.
-abbrev pub CopiesOver : Option Bool → Bool → List (Bor (List ℕ)) → List ℕ → Filed → Filed → Type 0
-CopiesOver contiguous next words stamp old new = (from : List (Bor (List ℕ))) × ((to : Bor (List ℕ)) × (words ≡ from ++ to ∷ []) × IsCopiedFromSome (copying_said contiguous next) stamp from to.now old new)
+-- how files are copied: with the rights of this reader, if there is one; in one piece or anywhere, if it is specified; and under the next version of
+-- each name if it is requested
+abbrev pub copying_said : Option Uic → Option Bool → Bool → CopyFrom
+copying_said reader contiguous next = record { reader = reader; placing = option_map placing_for contiguous; next = next }
+
+-- The files that these words but the last find on another volume are copied to the last one; `said` is whether the words specify a user. Only the host
+-- knows that the volume is the one of the named image.
+abbrev pub CopiesOver : Bool → Option Bool → Bool → List (Bor (List ℕ)) → List ℕ → Filed → Filed → Type 0
+CopiesOver said contiguous next words stamp old new = (from : List (Bor (List ℕ))) × ((to : Bor (List ℕ)) × (words ≡ from ++ to ∷ []) × IsCopiedFromSome (copying_said (reader_for said old.user) contiguous next) stamp from to.now old new)
 
 -- The files in the directory of the first of two words on another volume, and below it, are copied to the directory of the second word, and below it.
-abbrev pub CopiesTreeOver : Option Bool → Bool → List (Bor (List ℕ)) → List ℕ → Filed → Filed → Type 0
-CopiesTreeOver contiguous next words stamp old new =
-    (path : Bor (List ℕ)) × ((to : Bor (List ℕ)) × (words ≡ path ∷ to ∷ []) × IsTreeCopiedFromSome (copying_said contiguous next) stamp path.now to.now old new)
+abbrev pub CopiesTreeOver : Bool → Option Bool → Bool → List (Bor (List ℕ)) → List ℕ → Filed → Filed → Type 0
+CopiesTreeOver said contiguous next words stamp old new =
+    (path : Bor (List ℕ)) × ((to : Bor (List ℕ)) × (words ≡ path ∷ to ∷ []) × IsTreeCopiedFromSome (copying_said (reader_for said old.user) contiguous next) stamp path.now to.now old new)
 
 -- what a cp of the files of another image leaves: the files of a tree, if it is requested
-abbrev pub CopiesBelow : Bool → Option Bool → Bool → List (Bor (List ℕ)) → List ℕ → Filed → Filed → Type 0
-CopiesBelow true contiguous next words stamp old new = CopiesTreeOver contiguous next words stamp old new
-CopiesBelow false contiguous next words stamp old new = CopiesOver contiguous next words stamp old new
+abbrev pub CopiesBelow : Bool → Bool → Option Bool → Bool → List (Bor (List ℕ)) → List ℕ → Filed → Filed → Type 0
+CopiesBelow true said contiguous next words stamp old new = CopiesTreeOver said contiguous next words stamp old new
+CopiesBelow false said contiguous next words stamp old new = CopiesOver said contiguous next words stamp old new

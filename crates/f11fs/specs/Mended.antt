@@ -1,5 +1,5 @@
 -- What `repair` leaves of an image: the requested kinds, in order.
-use Rattle.std.specs.Prelude.{◌≡◌, ◌⊎◌, ◌||◌, ℕ, Bool, true, false, List, [], ◌∷◌, Option, Some, None}
+use Rattle.std.specs.Prelude.{◌≡◌, ◌≢◌, ◌⊎◌, ◌||◌, ℕ, Bool, true, false, List, [], ◌∷◌, Option, Some, None}
 use Rattle.std.specs.Borrow.{Bor}
 use Rattle.std.specs.List.{All, Contains}
 use Rattle.ods_base.specs.declared.file_id.FileId.{FileId}
@@ -18,6 +18,7 @@ use Rattle.ods_check.specs.declared.fault_line.FaultLine.TheVariants.{Shared}
 use Rattle.ods_check.specs.declared.finding.Finding.{Finding}
 use Rattle.ods_filing.specs.Filed.{Filed}
 use Rattle.ods_paths.specs.Paths.{Said, Says}
+use Rattle.ods_request.specs.declared.refusals.Refusal.TheVariants as refusal
 use Rattle.ods_repair.specs.Cleared.{IsCleared, IsNotCleared}
 use Rattle.ods_repair.specs.Doubled.{HasRenumbered, IsNotRenumbered}
 use Rattle.ods_repair.specs.Found.{IsFound, IsNotFound}
@@ -26,6 +27,7 @@ use Rattle.ods_repair.specs.Unshared.{HasOwnRuns, IsNotUnshared}
 use Rattle.ods_repair.specs.Used.{AreUsed, IsBitmapFault}
 use Rattle.ods_repair.specs.Wholly.{IsAllRenumbered, IsAllUnshared, IsAllUsed}
 use Rattle.ods_repair.specs.declared.fault.RepairFault.{RepairFault}
+use Rattle.ods_repair.specs.declared.fault.RepairFault.TheVariants as repair
 use Rattle.ods_repair.specs.declared.lost_file.LostFile.{LostFile}
 use Rattle.ods_repair.specs.declared.unsharing.Unshared.{Unshared}
 use Rattle.ods_shell.specs.Named.{AreNamedBy, highest}
@@ -35,6 +37,7 @@ use Rattle.ods_shell.specs.declared.facts.Kind.TheVariants as kind
 use Rattle.ods_shell.specs.declared.found.Found.{Found as Named}
 use Rattle.ods_upkeep.specs.Made.{AreMade}
 use Rattle.ods_upkeep.specs.Unmade.{AreNotMade}
+use Rattle.ods_upkeep.specs.Refused.{no_memory}
 use Rattle.ods_upkeep.specs.declared.failure.Failure.{Failure}
 use Rattle.fs_reads.specs.declared.stop.Stop.{Stop}
 use Rattle.fs_reads.specs.declared.stop.Stop.TheVariants as stop
@@ -45,15 +48,26 @@ use Rattle.fs_words.specs.declared.actions.Repairs.{Repairs}
 abbrev pub keeper : Uic
 keeper = record { group = 1; member = 1 }
 
+-- the fault of a repair is reported. If memory runs out, the command ends instead.
+abbrev pub IsReported : RepairFault → Type 0
+IsReported repair.NoMemory = ⊥
+IsReported (repair.NotRemoved x refusal.NoMemory) = ⊥
+IsReported (repair.NotEntered x refusal.NoMemory) = ⊥
+IsReported why = Unit {0}
+
+-- a repair is left for a reported fault of this kind
+abbrev pub IsLeftFor : (RepairFault → Type 0) → Type 0
+IsLeftFor Is = (why : RepairFault) × IsReported why × Is why
+
 -- what `used` leaves: blocks that belong to files and were marked as free are used; or it is refused, and nothing is done
 abbrev pub LeavesUsed : Bool → List (List ℕ) → List (List ℕ) → Type 0
 LeavesUsed false I J = J ≡ I
 LeavesUsed true I J = (L : VolumeLayout) × IsLayoutOf I L
-    × (((blocks : List ℕ) × AreUsed I L blocks J) ⊎ ((J ≡ I) × ((why : RepairFault) × IsBitmapFault I L why)))
+    × (((blocks : List ℕ) × AreUsed I L blocks J) ⊎ ((J ≡ I) × IsLeftFor (IsBitmapFault I L)))
 
 -- no two names of directory d are the same any more; or that is refused, and nothing is done
 abbrev pub LeavesDirectory : VolumeLayout → ℕ → List (List ℕ) → List (List ℕ) → Type 0
-LeavesDirectory L d I J = HasRenumbered I L d J ⊎ ((J ≡ I) × ((why : RepairFault) × IsNotRenumbered I L d why))
+LeavesDirectory L d I J = HasRenumbered I L d J ⊎ ((J ≡ I) × IsLeftFor (IsNotRenumbered I L d))
 
 -- the same for each of these, in order
 abbrev pub LeavesDirectories : VolumeLayout → List ℕ → List (List ℕ) → List (List ℕ) → Type 0
@@ -70,7 +84,7 @@ IsToldAsShared lines n = (m : ℕ) × (b : ℕ) × (count : ℕ) × Contains lin
 
 -- runs of file n have blocks of their own; or that is refused, and nothing is done
 abbrev pub LeavesFile : VolumeLayout → ℕ → List (List ℕ) → List (List ℕ) → Type 0
-LeavesFile L n I J = ((told : Unshared) × HasOwnRuns I L n told J) ⊎ ((J ≡ I) × ((why : RepairFault) × IsNotUnshared I L n why))
+LeavesFile L n I J = ((told : Unshared) × HasOwnRuns I L n told J) ⊎ ((J ≡ I) × IsLeftFor (IsNotUnshared I L n))
 
 -- the same for each of these, in order
 abbrev pub LeavesFiles : VolumeLayout → List ℕ → List (List ℕ) → List (List ℕ) → Type 0
@@ -89,7 +103,7 @@ LeavesDouble true I J = (L : VolumeLayout) × (ds : List ℕ) × IsLayoutOf I L 
 
 -- the volume is unchanged, since not all entries that name no file can be removed: one is refused
 abbrev pub ClearsNone : Filed → Filed → Type 0
-ClearsNone old new = (new ≡ old) × ((why : RepairFault) × (left : Filed) × IsNotCleared old left why)
+ClearsNone old new = (new ≡ old) × ((left : Filed) × IsLeftFor (IsNotCleared old left))
 
 -- what `names` leaves: entries that named no file are removed; or one is refused, and nothing is done
 abbrev pub LeavesNames : Bool → Filed → Filed → Type 0
@@ -127,7 +141,7 @@ EntersAll old dir new = (found : List LostFile) × IsFound old dir found new
 
 -- the directory does not take one of them
 abbrev pub EntersNot : Filed → FileId → Type 0
-EntersNot old dir = (left : Filed) × (why : RepairFault) × IsNotFound old dir left why
+EntersNot old dir = (left : Filed) × IsLeftFor (IsNotFound old dir left)
 
 -- they are entered in the specified directory
 abbrev pub EntersLost : List ℕ → Bor (List ℕ) → Filed → Filed → Type 0
@@ -135,7 +149,7 @@ EntersLost stamp into old new = (mid : Filed) × (dir : FileId) × HasDirectory 
 
 -- the directory for them does not exist, and mkdir does not make it
 abbrev pub IsNoDirectoryMade : List ℕ → Bor (List ℕ) → Filed → Type 0
-IsNoDirectoryMade stamp into old = (left : Filed) × (failure : Failure) × AreNotMade None 0 stamp (into ∷ []) old left failure
+IsNoDirectoryMade stamp into old = (left : Filed) × (failure : Failure) × (failure.why ≢ no_memory) × AreNotMade None 0 stamp (into ∷ []) old left failure
 
 -- why they are not entered: their directory is not made, or it does not take one of them
 abbrev pub EntersNone : List ℕ → Bor (List ℕ) → Filed → Type 0
@@ -153,7 +167,7 @@ LeavesLost true stamp into old new = ((new ≡ old) × HasNoLost old) ⊎ Leaves
 -- what `free` leaves: blocks that no file held but that were marked as used are free; or it is refused, and nothing is done
 abbrev pub LeavesFree : Bool → Filed → Filed → Type 0
 LeavesFree false old new = new ≡ old
-LeavesFree true old new = ((told : List Finding) × IsFreed old told new) ⊎ ((new ≡ old) × ((why : RepairFault) × IsNotFreed old why))
+LeavesFree true old new = ((told : List Finding) × IsFreed old told new) ⊎ ((new ≡ old) × IsLeftFor (IsNotFreed old))
 
 -- what the repairs of a sound volume leave, in order
 abbrev pub LeavesSound : Repairs → List ℕ → Bor (List ℕ) → Filed → Filed → Type 0

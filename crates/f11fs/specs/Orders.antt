@@ -17,11 +17,11 @@ layers_said None = layers.Found
 layers_said (Some layering.Plain) = layers.Plain
 layers_said (Some (layering.Physical order)) = layers.Physical order
 
--- the order of a floppy, if one is specified: only then a new image has it
-abbrev pub order_said : Option Layering → Option Order
-order_said None = None
-order_said (Some layering.Plain) = None
-order_said (Some (layering.Physical order)) = Some order
+-- the order of a new floppy: the specified one, otherwise that of its device
+abbrev pub new_order : Option Layering → Option Order → Option Order
+new_order None device = device
+new_order (Some layering.Plain) device = None
+new_order (Some (layering.Physical order)) device = Some order
 
 -- a floppy of this order has another number of blocks, and the end of the command states its own
 abbrev pub HasOtherBlocks : Bor (List ℕ) → Option Order → ℕ → Stop → Type 0

@@ -16,6 +16,7 @@ use crate::orders::layers_of;
 use crate::putting::placing_for;
 use crate::putting_tree::put_files;
 use crate::telling::plan_text;
+use crate::truncating::truncate;
 use crate::untarring::untar;
 use fs_host::{Locked, Shown, Unfinished, stamp_of_now};
 use fs_reads::{
@@ -31,7 +32,7 @@ use ods_request::Stamp;
 use ods_shell::Status;
 use ods_upkeep::{
     Failure, Removal, copy_files, give_owner, give_protection, is_below_another, make_directories,
-    move_names, purge_files, remove_directories, remove_files, truncate_file,
+    move_names, purge_files, remove_directories, remove_files,
 };
 use std::alloc::{AllocError, Global};
 
@@ -328,10 +329,7 @@ pub fn change_volume<'a, R: Host>(
             }
         }
         Change::Rmdir => end_change(alloc, remove_directories(alloc, filing, paths)),
-        Change::Truncate { bytes } => match paths.first() {
-            Some(path) => end_change(alloc, truncate_file(alloc, filing, *path, bytes)),
-            None => Err(Stop::Lines(String::new(alloc), Status::Words)),
-        },
+        Change::Truncate { bytes } => truncate(rt, filing, words, bytes),
         Change::Append => append(rt, filing, words, early),
         Change::Chmod { protection } => {
             end_change(alloc, give_protection(alloc, filing, paths, protection))

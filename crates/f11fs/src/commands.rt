@@ -65,7 +65,8 @@ fn obey_action<'a, R: Host>(
             blocks,
             files,
             label,
-        } => init_image(rt, words, blocks, files, label),
+            order,
+        } => init_image(rt, words, blocks, files, label, order),
         Action::Commands { file, keep_going } => obey_file(rt, words, file, keep_going),
         _ => read_volume(rt, words, progress),
     }

@@ -1,20 +1,23 @@
 //! `cp --from`: copies files of another image, which a mount may refuse, into the volume.
-ghost use Rattle.std.specs.Prelude.{◌≡◌, IfErr, OnOk};
-ghost use Rattle.f11fs.specs.{Changed.IsRefusal, CopiedOver.CopiesBelow, CopiedOver.CopiesOver, CopiedOver.CopiesTreeOver, CopiedOver.copying_said};
+ghost use Rattle.std.specs.Prelude.{◌≡◌, IfErr, OnOk, is_some};
+ghost use Rattle.f11fs.specs.{Changed.IsRefusal, CopiedOver.CopiesBelow, CopiedOver.CopiesOver, CopiedOver.CopiesTreeOver, CopiedOver.copying_said, CopiedOver.reader_for};
 
 use crate::changing::stop_failed;
 use crate::putting::placing_for;
 use fs_host::Layers;
-use fs_reads::{Readable, Stop, WordFault, open_readable};
+use fs_reads::{Readable, Stop, WordFault, open_readable, stop_about};
 use fs_words::{FromWords, Words};
+use ods_base::Uic;
 use ods_filing::Filing;
-use ods_request::Stamp;
+use ods_request::{Refusal, Stamp};
 use ods_shell::Status;
-use ods_upkeep::{CopyFrom, copy_from, copy_tree_from};
+use ods_upkeep::{CopyFrom, Failure, Why, copy_from, copy_tree_from};
+use std::alloc::Global;
 use std::fs::File;
 use std::rt::Files;
+use thiserror::Error;
 
-/// Copies files of the volume of another image, as the words specify.
+/// Copies files of the volume of another image, as the words specify. Rights on the other volume are checked only if the words specify a user.
 pub fn copy_from_image<'a, R: Files<File = File> + AllocGlobal + Eprint>(
     rt: &R,
     filing: &mut Filing,
@@ -22,7 +25,7 @@ pub fn copy_from_image<'a, R: Files<File = File> + AllocGlobal + Eprint>(
     words: &Words<'a>,
     how: FromWords<'a>,
 ) -> Result<(), Stop<'a>>
-    ensures done { OnOk result (CopiesBelow how.entry.below how.entry.contiguous how.entry.next words.now.paths.items stamp filing.old filing.new) }
+    ensures done { OnOk result (CopiesBelow how.entry.below (is_some words.now.user) how.entry.contiguous how.entry.next words.now.paths.items stamp filing.old filing.new) }
     ensures refused { IfErr result IsRefusal }
 {
     if how.below {
@@ -42,18 +45,19 @@ fn copy_over<'a, R: Files<File = File> + AllocGlobal + Eprint>(
     contiguous: Option<bool>,
     next: bool,
 ) -> Result<(), Stop<'a>>
-    ensures done { OnOk result (CopiesOver contiguous next words.now.paths.items stamp filing.old filing.new) }
+    ensures done { OnOk result (CopiesOver (is_some words.now.user) contiguous next words.now.paths.items stamp filing.old filing.new) }
     ensures refused { IfErr result IsRefusal }
 {
     let Some((to, paths)) = words.paths.as_slice().split_last() else {
         return Err(Stop::Lines(String::new(rt.alloc()), Status::Words));
     };
     let opened = open_other(rt, image)?;
-    let how = how_to_copy(contiguous, next);
+    let user = filing.user();
+    let how = how_to_copy(reader_for(words.user.is_some(), user), contiguous, next);
     let disk = opened.disk();
     match copy_from(rt.alloc(), filing, &disk, stamp, how, paths, *to) {
         Ok(()) => Ok(()),
-        Err(failure) => Err(stop_failed(rt.alloc(), &failure)),
+        Err(failure) => Err(stop_copied(rt.alloc(), &failure, user)),
     }
 }
 
@@ -68,7 +72,7 @@ fn copy_tree_over<'a, R: Files<File = File> + AllocGlobal + Eprint>(
     contiguous: Option<bool>,
     next: bool,
 ) -> Result<(), Stop<'a>>
-    ensures done { OnOk result (CopiesTreeOver contiguous next words.now.paths.items stamp filing.old filing.new) }
+    ensures done { OnOk result (CopiesTreeOver (is_some words.now.user) contiguous next words.now.paths.items stamp filing.old filing.new) }
     ensures refused { IfErr result IsRefusal }
 {
     let Some((to, paths)) = words.paths.as_slice().split_last() else {
@@ -81,11 +85,12 @@ fn copy_tree_over<'a, R: Files<File = File> + AllocGlobal + Eprint>(
         return Err(Stop::Word(*path, WordFault::OneDirectory));
     }
     let opened = open_other(rt, image)?;
-    let how = how_to_copy(contiguous, next);
+    let user = filing.user();
+    let how = how_to_copy(reader_for(words.user.is_some(), user), contiguous, next);
     let disk = opened.disk();
     match copy_tree_from(rt.alloc(), filing, &disk, stamp, how, *path, *to) {
         Ok(()) => Ok(()),
-        Err(failure) => Err(stop_failed(rt.alloc(), &failure)),
+        Err(failure) => Err(stop_copied(rt.alloc(), &failure, user)),
     }
 }
 
@@ -99,13 +104,63 @@ fn open_other<'a, R: Files<File = File> + AllocGlobal + Eprint>(
     open_readable(rt, image, None, Layers::Found, false)
 }
 
+/// Whose rights are checked on the other volume: those of the user in force, if the words specify one. Otherwise it is read without rights.
+fn reader_for(is_said: bool, user: Uic) -> Option<Uic>
+    ensures { result ≡ reader_for is_said user }
+{
+    if is_said { Some(user) } else { None }
+}
+
 /// How files are copied, by what the words say.
-fn how_to_copy(contiguous: Option<bool>, next: bool) -> CopyFrom
-    ensures { result ≡ copying_said contiguous next }
+fn how_to_copy(reader: Option<Uic>, contiguous: Option<bool>, next: bool) -> CopyFrom
+    ensures { result ≡ copying_said reader contiguous next }
 {
     let placing = match contiguous {
         Some(contiguous) => Some(placing_for(contiguous)),
         None => None,
     };
-    CopyFrom { placing, next }
+    CopyFrom {
+        reader,
+        placing,
+        next,
+    }
+}
+
+/// Why rights forbid a copy, with the user in force.
+#[derive(Clone, Copy, Debug, PartialEq, Eq, Error)]
+enum Denied {
+    /// A user whose group is above 10 octal.
+    #[error("Denied: the protection of the file denies this access to [{group:o},{member:o}]; act as its owner, or as a system user with -u [1,1]", group = .0.group, member = .0.member)]
+    User(Uic),
+    /// A system user.
+    #[error("Denied: the protection of the file denies this access to [{group:o},{member:o}]; act as its owner, or change the protection with 'chmod'", group = .0.group, member = .0.member)]
+    System(Uic),
+}
+
+/// The greatest group of a system user, 10 octal.
+const SYSTEM: u8 = 8;
+
+/// Returns why rights forbid a copy to this user.
+fn why_denied(user: Uic) -> Denied {
+    if user.group <= SYSTEM {
+        Denied::System(user)
+    } else {
+        Denied::User(user)
+    }
+}
+
+/// Returns the end of a command whose copy is refused. Where rights forbid it, the line names the user in force.
+#[tactic(auto, using(crate::proofs::Refusals::is_refusal))]
+fn stop_copied<'a>(alloc: Global, failure: &Failure, user: Uic) -> Stop<'a>
+    ensures { IsRefusal result }
+{
+    if failure.why == Why::Request(Refusal::Denied) {
+        return stop_about(
+            alloc,
+            failure.path.as_str(),
+            why_denied(user),
+            failure.status(),
+        );
+    }
+    stop_failed(alloc, failure)
 }

@@ -20,12 +20,14 @@ mod looking;
 mod making;
 mod mending;
 mod mending_shares;
+mod mending_sound;
 mod orders;
 mod putting;
 mod putting_tree;
 mod repair_lines;
 mod repairing;
 mod telling;
+mod truncating;
 mod untarring;
 mod version;
 

@@ -3,13 +3,13 @@ ghost use Rattle.std.specs.Prelude.{◌≡◌, false, true, IfErr, IfOk, IfSome,
 ghost use Rattle.fs_host.specs.Faults.{may_end_copying};
 ghost use Rattle.fs_host.specs.declared.faults.SaveFault.{SaveFault as Fault};
 ghost use Rattle.fs_reads.specs.declared.stop.Stop.{Stop as End};
-ghost use Rattle.f11fs.specs.{Orders.HasOtherBlocks, Orders.order_said, Saved.IsSavedStatus};
+ghost use Rattle.f11fs.specs.{Orders.HasOtherBlocks, Saved.IsSavedStatus};
 ghost use Rattle.ods_order.specs.Order.{block_count};
 ghost use Rattle.ods_shell.specs.declared.status.Status.{Status as Code};
 
 use crate::changing::{asker_of, say_unfinished};
 use crate::host::Host;
-use crate::orders::floppy_order;
+use crate::orders::new_order;
 use fs_host::{SaveFault, Shown, write_ordered};
 use fs_reads::{Stop, WordFault, send, stop_about};
 use fs_words::Words;
@@ -22,19 +22,22 @@ use std::fs;
 /// The label of a new volume where none is said.
 const LABEL: &str = "NEWVOLUME";
 
-/// Creates an image that does not exist before (`init`). A floppy in physical order has exactly the blocks of that floppy.
+/// Creates an image that does not exist before (`init`). A floppy in physical order has exactly the blocks of that floppy. `device` is the order of
+/// the sectors of its device, which applies if the words specify none.
 pub fn init_image<'a, R: Host>(
     rt: &R,
     words: &Words<'a>,
     blocks: u32,
     files: Option<u32>,
     label: Option<&'a str>,
+    device: Option<Order>,
 ) -> Result<Status, Stop<'a>>
     ensures status { IfOk result IsSavedStatus }
     ensures told { words.now.saving.only_tells ≡ true → IfOk result (λ s. s ≡ Code.Done) }
 {
     let path = words.image;
-    check_blocks(path, floppy_order(words.order), blocks)?;
+    let order = new_order(words.order, device);
+    check_blocks(path, order, blocks)?;
     let text = label.unwrap_or(LABEL);
     let Some(label) = Label::parse(text) else {
         return Err(Stop::Word(text, WordFault::NoLabel));
@@ -52,7 +55,7 @@ pub fn init_image<'a, R: Host>(
         stamp: asker.stamp,
     };
     match init(rt.alloc(), &new) {
-        Ok(image) => write_image(rt, words, &image),
+        Ok(image) => write_image(rt, words, &image, order),
         Err(InitFault::NoMemory) => Err(Stop::NoMemory),
         Err(fault) => Err(stop_about(rt.alloc(), path, fault, Status::Words)),
     }
@@ -74,10 +77,15 @@ fn check_blocks<'a>(path: &'a str, order: Option<Order>, blocks: u32) -> Result<
 }
 
 /// Writes a new image, or only tells of it.
-fn write_image<'a, R: Host>(rt: &R, words: &Words<'a>, image: &Image) -> Result<Status, Stop<'a>>
+fn write_image<'a, R: Host>(
+    rt: &R,
+    words: &Words<'a>,
+    image: &Image,
+    order: Option<Order>,
+) -> Result<Status, Stop<'a>>
     ensures status { IfOk result IsSavedStatus }
     ensures told { words.now.saving.only_tells ≡ true → IfOk result (λ s. s ≡ Code.Done) }
-    ensures err { words.now.saving.only_tells ≡ false → IfErr result (λ stop. (fault : Fault) × IsTrue (may_end_copying (is_some (order_said words.now.order)) fault) × (stop ≡ End.Word words.now.image (WordFault.Unsaved fault))) }
+    ensures err { words.now.saving.only_tells ≡ false → IfErr result (λ stop. (fault : Fault) × IsTrue (may_end_copying (is_some order) fault) × (stop ≡ End.Word words.now.image (WordFault.Unsaved fault))) }
 {
     let path = words.image;
     if words.saving.only_tells {
@@ -89,7 +97,7 @@ fn write_image<'a, R: Host>(rt: &R, words: &Words<'a>, image: &Image) -> Result<
         };
         return send(rt, text.as_str());
     }
-    match write_ordered(rt, path, image, floppy_order(words.order)) {
+    match write_ordered(rt, path, image, order) {
         Ok(wanting) => Ok(say_unfinished(rt, path, wanting)),
         Err(fault) => Err(Stop::Word(path, WordFault::Unsaved(fault))),
     }

@@ -13,7 +13,7 @@ use crate::repair_lines::{Part, Report};
 use fs_reads::Stop;
 use ods_base::Image;
 use ods_check::{Checked, FaultLine, Told, check_all};
-use ods_repair::{RepairFault, unshare};
+use ods_repair::unshare;
 use ods_space::Layout;
 use std::alloc::{AllocError, Global};
 
@@ -185,7 +185,6 @@ fn unshare_one<'a>(
     let mut image = image;
     match unshare(alloc, &mut image, layout, file) {
         Ok(told) => report.tell_shared(file, &told)?,
-        Err(RepairFault::NoMemory) => return Err(Stop::NoMemory),
         Err(fault) => report.tell_left(alloc, Part::File(file), &fault)?,
     }
     Ok(image)

@@ -1,6 +1,6 @@
 //! The order of the sectors of an image, as the words of a run specify it.
 ghost use Rattle.std.specs.Prelude.{◌≡◌};
-ghost use Rattle.f11fs.specs.Orders.{layers_said, order_said};
+ghost use Rattle.f11fs.specs.Orders.{layers_said, new_order};
 
 use fs_host::Layers;
 use fs_words::Layering;
@@ -17,12 +17,13 @@ pub fn layers_of(said: Option<Layering>) -> Layers
     }
 }
 
-/// Returns the specified order of a floppy.
-pub fn floppy_order(said: Option<Layering>) -> Option<Order>
-    ensures { result ≡ order_said said }
+/// Returns the order of a new floppy: the specified one, otherwise that of its device.
+pub fn new_order(said: Option<Layering>, device: Option<Order>) -> Option<Order>
+    ensures { result ≡ new_order said device }
 {
     match said {
+        None => device,
+        Some(Layering::Plain) => None,
         Some(Layering::Physical(order)) => Some(order),
-        _ => None,
     }
 }

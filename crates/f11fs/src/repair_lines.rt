@@ -1,13 +1,16 @@
 //! The lines that `repair` prints: one for each action, and one for each thing that is not repaired.
-ghost use Rattle.std.specs.Prelude.{◌≡◌, ◌+◌, ◌<◌, ◌≤◌, ◌==◌, if◌then◌else◌, OnOk, false, length, string_bytes, true};
+ghost use Rattle.std.specs.Prelude.{◌≡◌, ◌≢◌, ◌+◌, ◌<◌, ◌≤◌, ◌==◌, if◌then◌else◌, MatchBool, OnOk, false, length, string_bytes, true};
+ghost use Rattle.ods_upkeep.specs.Refused.{no_memory};
 ghost use Rattle.fs_reads.specs.Shown.{Extends};
-ghost use Rattle.f11fs.specs.Mended.{is_left_by};
+ghost use Rattle.f11fs.specs.Mended.{IsReported, is_left_by};
 
+use fs_reads::Stop;
 use ods_base::{FileId, print_title, print_type};
 use ods_check::{Dangling, Finding};
 use ods_mount::MountFault;
 use ods_repair::{LostFile, RepairFault, Unshared};
-use ods_upkeep::Failure;
+use ods_request::Refusal;
+use ods_upkeep::{Failure, Why};
 use std::alloc::{AllocError, Global};
 use thiserror::Error;
 
@@ -39,6 +42,18 @@ pub enum Part {
 pub struct Report {
     pub text: String,
     pub is_left: bool,
+}
+
+/// Whether a repair ended because memory ran out.
+fn is_memory(why: &RepairFault) -> bool
+    ensures { MatchBool result (¬ IsReported why.now) (IsReported why.now) }
+{
+    matches!(
+        why,
+        RepairFault::NotRemoved(_, Refusal::NoMemory)
+            | RepairFault::NotEntered(_, Refusal::NoMemory)
+            | RepairFault::NoMemory
+    )
 }
 
 impl Report {
@@ -128,30 +143,40 @@ impl Report {
         )
     }
 
-    /// Reports a part that is not repaired, and why.
-    pub fn tell_left(
+    /// Reports a part that is not repaired, and why. If memory ran out, the command ends.
+    pub fn tell_left<'a>(
         &mut self,
         alloc: Global,
         part: Part,
         why: &RepairFault,
-    ) -> Result<(), AllocError>
+    ) -> Result<(), Stop<'a>>
+        ensures reported { OnOk result (IsReported why.now) }
         ensures more { OnOk result (Extends (string_bytes self.old.text) (string_bytes self.new.text)) }
         ensures left { self.new.is_left ≡ true }
     {
         self.is_left = true;
+        if is_memory(why) {
+            return Err(Stop::NoMemory);
+        }
         let about = format!(in alloc; "{part}")?;
         let said = format!(in alloc; "{why}")?;
-        writeln!(self.text, "{about}: not done: {said}")
+        writeln!(self.text, "{about}: not done: {said}")?;
+        Ok(())
     }
 
-    /// Reports that lost files are not entered, because their directory is not made.
-    pub fn tell_unmade(&mut self, alloc: Global, failure: &Failure) -> Result<(), AllocError>
+    /// Reports that lost files are not entered, because their directory is not made. If memory ran out, the command ends.
+    pub fn tell_unmade<'a>(&mut self, alloc: Global, failure: &Failure) -> Result<(), Stop<'a>>
+        ensures reported { OnOk result (failure.now.why ≢ no_memory) }
         ensures more { OnOk result (Extends (string_bytes self.old.text) (string_bytes self.new.text)) }
         ensures left { self.new.is_left ≡ true }
     {
         self.is_left = true;
+        if let Why::Request(Refusal::NoMemory) = failure.why {
+            return Err(Stop::NoMemory);
+        }
         let said = format!(in alloc; "{}: {}", failure.path.as_str(), failure.why)?;
-        writeln!(self.text, "lost: not done: {said}")
+        writeln!(self.text, "lost: not done: {said}")?;
+        Ok(())
     }
 
     /// Reports that the repairs of a sound volume are not made, because the image is refused for this fault.

@@ -1,5 +1,5 @@
 //! `get --deleted`: deleted files whose headers still exist, written to files of the host.
-ghost use Rattle.std.specs.Prelude.{◌≡◌, ◌⊎◌, ℕ, List, Option, true, IfErr, IfOk, OnOk};
+ghost use Rattle.std.specs.Prelude.{◌≡◌, ◌⊎◌, ◌++◌, ℕ, List, Option, true, IfErr, IfOk, IfSome, OnOk, codes};
 ghost use Rattle.std.specs.Borrow.{Bor};
 ghost use Rattle.std.specs.List.{All};
 ghost use Rattle.ods_paths.specs.Paths.{File as OfId, Says};
@@ -9,7 +9,7 @@ ghost use Rattle.ods_space.specs.Disks.{on};
 ghost use Rattle.fs_reads.specs.Deleted.{EndsWords};
 ghost use Rattle.fs_reads.specs.Ends.{may_name};
 ghost use Rattle.fs_reads.specs.Gets.{AreSaid};
-ghost use Rattle.fs_reads.specs.Undeleted.{AreIdsGot, EndsBy, IsFormerGot, IsIdGot, SaysId};
+ghost use Rattle.fs_reads.specs.Undeleted.{AreIdsGot, EndsBy, IsFormerGot, IsIdGot, SaysId, SpellsId};
 
 use crate::getting::{
     Destination, How, choose_destination, keep, path_within, second_for, split_words,
@@ -29,7 +29,7 @@ use ods_shell::{
     open_former,
 };
 use ods_space::Disk;
-use std::alloc::Global;
+use std::alloc::{AllocError, Global};
 use std::collections::BTreeSet;
 use std::fs::File;
 use std::io;
@@ -81,11 +81,14 @@ fn check_ids<'a>(alloc: Global, paths: &[&'a str]) -> Result<(), Stop<'a>>
     Ok(())
 }
 
-/// The ID that a path is, for a deleted file is in no directory.
+/// The ID that a word is, with or without its `#`, for a deleted file is in no directory.
 fn id_in<'a>(alloc: Global, path: &'a str) -> Result<FileId, Stop<'a>>
-    ensures ok { IfOk result (λ id. Says path.entry.now (OfId id)) }
+    ensures ok { IfOk result (SpellsId path.entry.now) }
     ensures err { IfErr result EndsWords }
 {
+    if let Some(id) = unmarked_id(alloc, path)? {
+        return Ok(id);
+    }
     match parse_path(path.as_bytes()) {
         Ok(Path::File(id)) => Ok(id),
         Ok(Path::Within(_, _)) => {
@@ -93,6 +96,17 @@ fn id_in<'a>(alloc: Global, path: &'a str) -> Result<FileId, Stop<'a>>
             Err(stop_about(alloc, path, why, Status::Words))
         }
         Err(bad) => Err(Stop::Path(path, PathFault::Bad(bad))),
+    }
+}
+
+/// The ID that a word is without its `#`.
+fn unmarked_id(alloc: Global, word: &str) -> Result<Option<FileId>, AllocError>
+    ensures { IfOk result (λ found. IfSome found (λ id. Says (codes "#" ++ word.now) (OfId id))) }
+{
+    let text = format!(in alloc; "#{word}")?;
+    match parse_path(text.as_bytes()) {
+        Ok(Path::File(id)) => Ok(Some(id)),
+        _ => Ok(None),
     }
 }
 

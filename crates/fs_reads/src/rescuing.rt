@@ -1,28 +1,25 @@
 //! `rescue`: each file whose own chain is whole, copied out of an image that a mount may refuse.
 ghost use Rattle.std.specs.Prelude.{◌≡◌, ◌⊎◌, IfNone, IfOk, IfSome};
-ghost use Rattle.fs_reads.specs.Ends.{StopsWith};
 ghost use Rattle.ods_shell.specs.declared.status.Status.{Status as Code};
 ghost use Rattle.ods_space.specs.Files.{FindsFiles, IsLayoutOf};
 ghost use Rattle.ods_space.specs.Layout.{VolumeLayout};
 ghost use Rattle.ods_space.specs.Disks.{on};
 
 use crate::finding::find_all;
-use crate::host_files::{Written, write_host};
 use crate::progress::Progress;
 use crate::rescue_folder::take_folder;
 use crate::rescue_image::read_whole_blocks;
+use crate::rescue_lines::{say_fault, say_left, say_rest};
 use crate::rescue_way::{Kept, Way};
+use crate::rescued_file::{How, rescue_file};
 use crate::scanning::rescue_scanned;
-use crate::stop::{Stop, say_end, send, stop_about, stop_at_own_output};
-use fs_host::{HostFault, Layers, SaveFault, Shown};
+use crate::stop::{Stop, stop_at_own_output};
+use fs_host::Layers;
 use fs_words::Words;
-use ods_base::{FileId, Image, Listed, print_name};
+use ods_base::{Image, Listed, print_name};
 use ods_check::{Finding, bad_headers, check_first};
 use ods_mount::readable_layout;
-use ods_shell::{
-    Contents, Directory, Rescued, Status, facts_by_id, open_rescued, open_rescued_part,
-    pair_object, text_object,
-};
+use ods_shell::{Directory, Status, facts_by_id};
 use ods_space::{Disk, Layout, last_number};
 use std::alloc::{AllocError, Global};
 use std::collections::BTreeSet;
@@ -35,20 +32,6 @@ const FIRST: u16 = 6;
 
 /// How many numbers files have, with 0.
 const NUMBERS: usize = 65536;
-
-/// How files are copied.
-#[derive(Clone, Copy)]
-pub(crate) struct How<'a> {
-    /// The host folder that receives the files.
-    pub folder: &'a str,
-    /// Whether records become lines if they are whole.
-    pub text: bool,
-    /// Whether the available part of a file is copied if headers or blocks are missing.
-    pub partial: bool,
-    /// Whether the command only prints what it would write.
-    pub only_tells: bool,
-    pub json: bool,
-}
 
 /// `rescue` into the folder that the first word specifies. With `scan`, or if no layout locates the headers, a scan finds the files.
 pub fn rescue<'a, R: Files<File = File> + Clock + AllocGlobal + Print + Eprint>(
@@ -289,261 +272,5 @@ fn say_bad_header<'a, R: AllocGlobal + Print>(
     match say_left(rt, file.as_str(), why.as_str(), line.as_str(), json) {
         Ok(_) => Ok(Status::Found),
         Err(stop) => Err(stop),
-    }
-}
-
-/// A line of bytes that are no whole block.
-fn say_rest<'a, R: AllocGlobal + Print>(
-    rt: &R,
-    path: &str,
-    rest: u64,
-    json: bool,
-) -> Result<Status, Stop<'a>>
-    ensures { IfOk result (λ s. s ≡ Code.Done) }
-{
-    let path = Shown(path);
-    let line = format!(in rt.alloc();
-        "{path}: {rest} bytes after the last whole block are left out\n"
-    )?;
-    let what = format!(in rt.alloc(); "{rest} bytes after the last whole block")?;
-    say_left(
-        rt,
-        what.as_str(),
-        "they are not a whole block",
-        line.as_str(),
-        json,
-    )
-}
-
-/// Prints a line, or an object, for the fault that a mount reports.
-pub(crate) fn say_fault<'a, R: AllocGlobal + Print>(
-    rt: &R,
-    path: &str,
-    fault: &str,
-    json: bool,
-) -> Result<Status, Stop<'a>>
-    ensures { IfOk result (λ s. s ≡ Code.Done) }
-{
-    let line = if json {
-        text_object(rt.alloc(), "fault", fault)?
-    } else {
-        let path = Shown(path);
-        format!(in rt.alloc(); "{path}: {fault}\n")?
-    };
-    send(rt, line.as_str())
-}
-
-/// Prints a line, or an object, for something that is left out.
-pub(crate) fn say_left<'a, R: AllocGlobal + Print>(
-    rt: &R,
-    what: &str,
-    why: &str,
-    line: &str,
-    json: bool,
-) -> Result<Status, Stop<'a>>
-    ensures { IfOk result (λ s. s ≡ Code.Done) }
-{
-    if json {
-        let object = pair_object(rt.alloc(), "left", what, "why", why)?;
-        return send(rt, object.as_str());
-    }
-    send(rt, line)
-}
-
-/// Prints a line, or an object, for a file that is copied although a part of it is missing.
-pub(crate) fn say_part<'a, R: AllocGlobal + Print>(
-    rt: &R,
-    what: &str,
-    why: &str,
-    json: bool,
-) -> Result<Status, Stop<'a>>
-    ensures { IfOk result (λ s. s ≡ Code.Done) }
-{
-    let line = if json {
-        pair_object(rt.alloc(), "in_part", what, "why", why)?
-    } else {
-        format!(in rt.alloc(); "in part: {what}: {why}\n")?
-    };
-    send(rt, line.as_str())
-}
-
-/// Copies the file with this number, where its own chain is whole.
-fn rescue_file<'a, R: Files<File = File> + AllocGlobal + Print + Eprint>(
-    rt: &R,
-    disk: &Disk<'_>,
-    number: u16,
-    how: How<'_>,
-    way: Way<'_>,
-    kept: &mut Kept,
-) -> Result<Status, Stop<'a>>
-    requires { on FindsFiles disk.now }
-    ensures { IfOk result (λ s. (s ≡ Code.Done) ⊎ (s ≡ Code.Found)) }
-{
-    match open_rescued(rt.alloc(), disk, number, how.text)? {
-        Rescued::Nothing => Ok(Status::Done),
-        Rescued::Broken(file, fault) => {
-            let what = way.told(rt.alloc(), file)?;
-            let why = format!(in rt.alloc(); "{fault}")?;
-            if how.partial {
-                return keep_part(
-                    rt,
-                    disk,
-                    number,
-                    how,
-                    file,
-                    what.as_str(),
-                    why.as_str(),
-                    way,
-                    kept,
-                );
-            }
-            let line = format!(in rt.alloc(); "left: {}: {fault}\n", what.as_str())?;
-            say_left(rt, what.as_str(), why.as_str(), line.as_str(), how.json)?;
-            Ok(Status::Found)
-        }
-        Rescued::Whole(file, name, contents) => keep_below(
-            rt, how, file, name, &contents, way, kept,
-        ),
-    }
-}
-
-/// Copies what is there of a file whose chain is not whole.
-fn keep_part<'a, R: Files<File = File> + AllocGlobal + Print + Eprint>(
-    rt: &R,
-    disk: &Disk<'_>,
-    number: u16,
-    how: How<'_>,
-    file: FileId,
-    what: &str,
-    why: &str,
-    way: Way<'_>,
-    kept: &mut Kept,
-) -> Result<Status, Stop<'a>>
-    ensures { IfOk result (λ s. s ≡ Code.Found) }
-{
-    let Some(part) = open_rescued_part(rt.alloc(), disk, number, how.text)? else {
-        return Ok(Status::Found);
-    };
-    say_part(rt, what, why, how.json)?;
-    keep_below(rt, how, file, part.name, &part.contents, way, kept)?;
-    Ok(Status::Found)
-}
-
-/// Writes what is got out of a file to where its way leads. `name` is the name in its header.
-fn keep_below<'a, R: Files<File = File> + AllocGlobal + Print + Eprint>(
-    rt: &R,
-    how: How<'_>,
-    file: FileId,
-    name: String,
-    contents: &Contents<'_>,
-    way: Way<'_>,
-    kept: &mut Kept,
-) -> Result<Status, Stop<'a>>
-    ensures { IfOk result (λ s. (s ≡ Code.Done) ⊎ (s ≡ Code.Found)) }
-{
-    if !how.only_tells
-        && let Err(stop) = way.make(rt, how.folder, &mut kept.folders)
-    {
-        return leave_unwritten(rt, stop);
-    }
-    let name = way.name(rt.alloc(), name.as_str())?;
-    keep(rt, how, file, name, contents, &mut kept.names)
-}
-
-/// Writes the contents of a file to a new file of the folder, under its name. If the name is taken, the ID is appended to the name. With `only_tells`
-/// only prints what it would write.
-pub(crate) fn keep<'a, R: Files<File = File> + AllocGlobal + Print + Eprint>(
-    rt: &R,
-    how: How<'_>,
-    file: FileId,
-    name: String,
-    contents: &Contents<'_>,
-    taken: &mut BTreeSet<String>,
-) -> Result<Status, Stop<'a>>
-    ensures { IfOk result (λ s. (s ≡ Code.Done) ⊎ (s ≡ Code.Found)) }
-{
-    let name = if taken.contains(&name) {
-        format!(in rt.alloc(); "{} #{},{}", name.as_str(), file.number, file.sequence)?
-    } else {
-        name
-    };
-    let path = format!(in rt.alloc(); "{}/{}", how.folder, name.as_str())?;
-    if how.only_tells {
-        tell(rt, file, path.as_str(), how.json)?;
-    } else {
-        let written = write_host(rt, contents, path.as_str(), None, false);
-        if written != Written::Done {
-            let stop = stop_unwritten(rt.alloc(), path.as_str(), written);
-            return if has_no_room(written) {
-                Err(stop)
-            } else {
-                leave_unwritten(rt, stop)
-            };
-        }
-        let line = if how.json {
-            text_object(rt.alloc(), "rescued", name.as_str())?
-        } else {
-            format!(in rt.alloc(); "{}\n", name.as_str())?
-        };
-        send(rt, line.as_str())?;
-    }
-    match taken.insert(name) {
-        Ok(_) => Ok(Status::Done),
-        Err(_) => Err(Stop::NoMemory),
-    }
-}
-
-/// A line, or an object, for a file that would be written.
-fn tell<'a, R: AllocGlobal + Print>(
-    rt: &R,
-    file: FileId,
-    path: &str,
-    json: bool,
-) -> Result<Status, Stop<'a>>
-    ensures { IfOk result (λ s. s ≡ Code.Done) }
-{
-    let from = format!(in rt.alloc(); "#{},{}", file.number, file.sequence)?;
-    let line = if json {
-        pair_object(rt.alloc(), "rescue", from.as_str(), "to", path)?
-    } else {
-        let path = Shown(path);
-        format!(in rt.alloc(); "rescue {} to {path}\n", from.as_str())?
-    };
-    send(rt, line.as_str())
-}
-
-/// Whether the disk of the host is full, so that it takes no other file either.
-fn has_no_room(written: Written) -> bool {
-    matches!(
-        written,
-        Written::Unmade(HostFault::NoRoom) | Written::Failed(HostFault::NoRoom)
-    )
-}
-
-/// Prints why the host does not take a file, which is left. Any other stop ends the rescue.
-fn leave_unwritten<'a, R: Eprint>(rt: &R, stop: Stop<'a>) -> Result<Status, Stop<'a>>
-    ensures { IfOk result (λ s. s ≡ Code.Found) }
-{
-    match stop {
-        Stop::Lines(_, Status::Host) => {
-            let _ = say_end(rt, Err(stop));
-            Ok(Status::Found)
-        }
-        stop => Err(stop),
-    }
-}
-
-/// The end of a rescue that does not write a file.
-fn stop_unwritten<'a>(alloc: Global, path: &str, written: Written) -> Stop<'a>
-    ensures { StopsWith result Code.Host }
-{
-    match written {
-        Written::Done | Written::IsThere => {
-            stop_about(alloc, path, HostFault::IsThere, Status::Host)
-        }
-        Written::Failed(HostFault::Left) => stop_about(alloc, path, HostFault::Left, Status::Host),
-        Written::Unmade(why) | Written::Failed(why) => {
-            stop_about(alloc, path, SaveFault::Write(why), Status::Host)
-        }
     }
 }

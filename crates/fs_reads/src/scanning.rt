@@ -6,7 +6,8 @@ ghost use Rattle.ods_shell.specs.declared.status.Status.{Status as Code};
 
 use crate::progress::Progress;
 use crate::rescue_folder::take_folder;
-use crate::rescuing::{How, keep, say_fault, say_left, say_part};
+use crate::rescue_lines::{say_fault, say_left, say_part};
+use crate::rescued_file::{How, keep};
 use crate::stop::Stop;
 use ods_base::{FileId, Image};
 use ods_remains::{Scan, Scanned};

@@ -7,3 +7,4 @@ pub mod Unknown
 pub mod Refusing
 pub mod OneProtection
 pub mod RepairLists
+pub mod Floppies

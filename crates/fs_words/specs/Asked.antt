@@ -16,7 +16,7 @@ use Rattle.fs_words.specs.declared.actions.PutWords.{PutWords}
 use Rattle.fs_words.specs.declared.actions.Repairs.{Repairs}
 use Rattle.fs_words.specs.declared.verbs.Verb.{Verb}
 use Rattle.fs_words.specs.declared.verbs.Verb.TheVariants as verb
-use Rattle.fs_words.specs.Devices.{device_size}
+use Rattle.fs_words.specs.Devices.{device_order, device_size}
 use Rattle.fs_words.specs.Protections.{IsProtection}
 use Rattle.fs_words.specs.RepairWords.{AreKinds}
 use Rattle.fs_words.specs.Users.{IsSaid}
@@ -154,7 +154,7 @@ IsSize text blocks = MatchOption (device_size text) (IsNumber text blocks) (λ s
 
 abbrev pub IsInit : ArgMatches → Action → Type 0
 IsInit m a = (blocks : ℕ) × (files : Option ℕ) × (label : Option (Bor (List ℕ))) × IsSize (unwrap_or (text_of m (codes "size")) []) blocks × IsValue IsNumber (text_of m (codes "--files")) files
-    × (value_of label ≡ text_of m (codes "--label")) × (a ≡ action.Init blocks files label)
+    × (value_of label ≡ text_of m (codes "--label")) × (a ≡ action.Init blocks files label (device_order (unwrap_or (text_of m (codes "size")) [])))
 
 -- The request of each command; `out` is the value of -o.
 abbrev pub Asks : Verb → ArgMatches → Option (Bor (List ℕ)) → Action → Type 0

@@ -1,5 +1,6 @@
 //! The commands that words request.
 use ods_base::Uic;
+use ods_order::Order;
 use ods_records::Wanted;
 
 /// A command.
@@ -67,11 +68,13 @@ pub enum Action<'a> {
         kinds: Repairs,
         into: Option<&'a str>,
     },
-    /// Makes an image of this many blocks, with room for this many files in addition to the five reserved ones, if a number is given.
+    /// Makes an image of this many blocks, with room for this many files in addition to the five reserved ones, if a number is given. `order` is the
+    /// order of the sectors of the floppies of a device, if one is given.
     Init {
         blocks: u32,
         files: Option<u32>,
         label: Option<&'a str>,
+        order: Option<Order>,
     },
     /// Runs the commands in this file of the host, or in standard input if it is `-`. With `keep_going`, continues past commands that are refused.
     Commands {

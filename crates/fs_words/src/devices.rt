@@ -1,7 +1,9 @@
-//! The sizes of volumes by the names of devices.
+//! The sizes of volumes, and the orders of floppies, by the names of devices.
 ghost use Rattle.std.specs.Prelude.{◌≡◌, find, option_map};
 ghost use Rattle.std.specs.Str.{str_eq_ignore_ascii_case};
-ghost use Rattle.fs_words.specs.Devices.{device_size};
+ghost use Rattle.fs_words.specs.Devices.{device_order, device_size};
+
+use ods_order::Order;
 
 /// A device, with the blocks of its volumes.
 #[derive(Clone, Copy)]
@@ -82,4 +84,18 @@ fn blocks_among(devices: &[Device<'_>], name: &str) -> Option<u32>
         .iter()
         .find(|device| device.name.eq_ignore_ascii_case(name))
         .map(|device| device.blocks)
+}
+
+/// Returns the order of the sectors in which emulators attach floppies of this device, if it is not the order of the blocks. Small letters count as
+/// capitals.
+pub fn device_order(name: &str) -> Option<Order>
+    ensures { result ≡ device_order name.now }
+{
+    if "RX01".eq_ignore_ascii_case(name) {
+        return Some(Order::Rx01);
+    }
+    if "RX02".eq_ignore_ascii_case(name) {
+        return Some(Order::Rx02);
+    }
+    None
 }

@@ -11,6 +11,7 @@ mod devices;
 mod forms;
 mod help;
 mod hints;
+mod laws;
 mod layering;
 mod line;
 mod numbers;
@@ -26,7 +27,8 @@ mod words;
 
 pub use actions::{Action, Change, FromWords, PutWords, Repairs};
 pub use days::is_true_day;
-pub use devices::device_blocks;
+pub use devices::{device_blocks, device_order};
+pub use laws::floppies_fit;
 pub use layering::Layering;
 pub use line::{LineFault, line_words};
 pub use ods_words::WordsFault;

@@ -240,7 +240,7 @@ fn force_help<'a>(verb: Option<Verb>) -> &'a str {
 fn order_help<'a>(verb: Option<Verb>) -> &'a str {
     match verb {
         Some(Verb::Init) => {
-            "Write the sectors of the image in this order: plain, rx01, rx02 or rx50. Default: plain"
+            "Write the sectors of the image in this order: plain, rx01, rx02 or rx50. Default: that of RX01 or RX02, otherwise plain"
         }
         _ =>
             "Read and write the sectors of the image in this order: plain, rx01, rx02 or rx50. Default: f11fs finds it",

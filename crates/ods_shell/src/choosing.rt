@@ -46,8 +46,8 @@ fn add_chosen(
     Ok(())
 }
 
-/// Whether this line, which stands at this place, is chosen.
-fn is_chosen(
+/// Returns whether this line, at this index, is chosen.
+pub(crate) fn is_chosen(
     lines: &[Listed],
     place: usize,
     line: &Listed,

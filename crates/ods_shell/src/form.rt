@@ -187,8 +187,8 @@ fn without_records<'a>(alloc: Global, body: FileBody<'a>) -> Result<Got<'a>, For
     as_bytes(body, Wanted::ByKind)
 }
 
-/// Whether a file with these attributes is a stream of lines.
-fn is_line_stream(attributes: &[u8; 32]) -> bool
+/// Returns whether a file with these attributes is a stream of lines.
+pub fn is_line_stream(attributes: &[u8; 32]) -> bool
     ensures { result ≡ line_stream attributes.now }
 {
     match text_form(attributes) {

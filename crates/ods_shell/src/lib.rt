@@ -52,7 +52,7 @@ pub use file_names::FileNames;
 pub use find::{find_lines, is_there, lost_lines, push_path_of, unreached_lines};
 pub use finding::{FoundLines, find_open};
 pub use folders::{Directory, MASTER, is_directory_file, lines_of};
-pub use form::{Contents, FormFault, Got, Remark, open_contents};
+pub use form::{Contents, FormFault, Got, Remark, is_line_stream, open_contents};
 pub use former::{Former, FormerFault, find_former, open_former};
 pub use found::{EntryPlace, Found, file_at, find_names, find_path};
 pub use info::{Info, volume_info};

@@ -1,14 +1,14 @@
 //! The directories that the steps of a path reach.
 ghost use Rattle.std.specs.Prelude.{◌≡◌, ◌+◌, ◌<◌, ◌++◌, ◌∷◌, ℕ, List, [], IfOk, OnOk, MatchBool, IsSortedByKey, Some, length, slice_get, take};
 ghost use Rattle.ods_base.specs.declared.listed.Listed.{Listed as Entry};
-ghost use Rattle.ods_paths.specs.{Order.listing_cmp, Patterns.capitals, Steps.Numbers, Steps.Pattern, Views.step as said_step, Views.steps as said_steps};
+ghost use Rattle.ods_paths.specs.{Order.listing_cmp, Views.step as said_step, Views.steps as said_steps};
 ghost use Rattle.ods_walk.specs.Listing.{shown};
 ghost use Rattle.ods_shell.specs.Choosing.{AreThose};
 ghost use Rattle.ods_shell.specs.declared.folders.Directory.{Directory as One};
 ghost use Rattle.ods_shell.specs.Ways.{AreMet, AreNamedIn, AreStarts, AreSteps, AreWays, CountAsClosed, HasNumbers, IsMeant, IsStep, IsWayBy, LeadsOn};
 ghost use Rattle.ods_space.specs.Disks.{on};
 
-use crate::choosing::{chosen, is_highest};
+use crate::choosing::{is_chosen, is_highest};
 use crate::folders::{Closed, Directory, MASTER, directory_of, lines_of, master};
 use ods_base::{Listed, Name, print_title};
 use ods_paths::{Files, Step, Steps, Versions, numbered_name};
@@ -131,75 +131,51 @@ pub(crate) fn ways_by(
     requires { IsSortedByKey shown listing_cmp ways.now }
     ensures { IfOk result (λ those. AreThose (IsWayBy (said_step step.now) ways.now) ways.now those.items) }
 {
-    match step {
-        Step::Numbers { group, member } => numbered_ways(alloc, ways, *group, *member),
-        Step::Pattern(name) => named_ways(alloc, ways, name),
-    }
-}
-
-/// Of these ways those whose names a pattern matches, and of one name the highest version.
-fn named_ways(alloc: Global, ways: &[Listed], name: &[u8]) -> Result<Vec<Listed>, AllocError>
-    requires { IsSortedByKey shown listing_cmp ways.now }
-    ensures { IfOk result (λ those. AreThose (IsWayBy (Pattern (capitals name.now)) ways.now) ways.now those.items) }
-{
-    let files = Files {
-        name,
-        kind: b"*",
-        versions: None,
-    };
-    chosen(alloc, ways, &files, Versions::Highest)
-}
-
-/// Of these ways those whose names are of the group and the member, and of one name the highest version.
-fn numbered_ways(
-    alloc: Global,
-    ways: &[Listed],
-    group: Option<u8>,
-    member: Option<u8>,
-) -> Result<Vec<Listed>, AllocError>
-    requires { IsSortedByKey shown listing_cmp ways.now }
-    ensures { IfOk result (λ those. AreThose (IsWayBy (Numbers group member) ways.now) ways.now those.items) }
-{
     let mut those = Vec::new(alloc);
     for place in 0..ways.len() {
-        add_numbered(ways, place, group, member, &mut those)?;
+        add_selected(ways, place, step, &mut those)?;
     }
     Ok(those)
 }
 
-/// Adds the way at this place, where it is one of those.
-fn add_numbered(
+/// Adds the way at this index, if the step selects it.
+fn add_selected(
     ways: &[Listed],
     place: usize,
-    group: Option<u8>,
-    member: Option<u8>,
+    step: &Step<'_>,
     those: &mut Vec<Listed>,
 ) -> Result<(), AllocError>
     requires sorted { IsSortedByKey shown listing_cmp ways.now }
     requires inside { place < length ways.now }
-    ensures { OnOk result (AreThose (IsWayBy (Numbers group member) ways.now) (take place ways.now) those.old.items
-        → AreThose (IsWayBy (Numbers group member) ways.now) (take (place + 1) ways.now) those.new.items) }
+    ensures { OnOk result (AreThose (IsWayBy (said_step step.now) ways.now) (take place ways.now) those.old.items
+        → AreThose (IsWayBy (said_step step.now) ways.now) (take (place + 1) ways.now) those.new.items) }
 {
     let way = ways[place];
-    if is_numbered_way(ways, place, &way, group, member) {
+    if is_selected(ways, place, &way, step) {
         those.push(way)?;
     }
     Ok(())
 }
 
-/// Whether this way, which stands at this place, is one of those.
-fn is_numbered_way(
-    ways: &[Listed],
-    place: usize,
-    way: &Listed,
-    group: Option<u8>,
-    member: Option<u8>,
-) -> bool
+/// Whether the step selects this way, which is at this index.
+fn is_selected(ways: &[Listed], place: usize, way: &Listed, step: &Step<'_>) -> bool
     requires sorted { IsSortedByKey shown listing_cmp ways.now }
     requires there { slice_get ways.now place ≡ Some way.now }
-    ensures { MatchBool result (IsWayBy (Numbers group member) ways.now way.now) (¬ IsWayBy (Numbers group member) ways.now way.now) }
+    ensures { MatchBool result (IsWayBy (said_step step.now) ways.now way.now) (¬ IsWayBy (said_step step.now) ways.now way.now) }
 {
-    has_numbers(way, group, member) && is_highest(ways, place, way)
+    match step {
+        Step::Numbers { group, member } => {
+            has_numbers(way, *group, *member) && is_highest(ways, place, way)
+        }
+        Step::Pattern(name) => {
+            let files = Files {
+                name,
+                kind: b"*",
+                versions: None,
+            };
+            is_chosen(ways, place, way, &files, Versions::Highest)
+        }
+    }
 }
 
 /// Whether the name of an entry is that of a group and a member that are meant.

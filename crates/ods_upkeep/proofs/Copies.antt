@@ -1,5 +1,5 @@
 -- Files that are copied, one after another.
-use Rattle.std.proofs.Common.{◌≡◌, ◌+◌, ◌<◌, ◌≤◌, refl, sym, subst, ℕ, List, [], length, get_or, drop, Some, None, inl, inr, arith}
+use Rattle.std.proofs.Common.{◌≡◌, ◌+◌, ◌<◌, ◌≤◌, refl, sym, subst, ℕ, List, [], length, get_or, drop, Option, Some, None, inl, inr, arith}
 use Rattle.std.specs.String.{string_bytes}
 use Rattle.std.proofs.lemmas.List.Elements.{All-contains}
 use Rattle.ods_base.specs.Name.{RadName}
@@ -93,12 +93,12 @@ copy_not_given placing to name stamp facts old mid filed new user attributes byt
 
 -- a file is copied
 pub is_copied : (placing : Placing) (to : Target) (stamp : List ℕ) (found : Found) (old new : Filed) (user : Uic) (facts : Facts) (name : RadName) (bytes lent : List ℕ)
-    → user ≡ old.user → IsCopyable user to found facts name → ((body : Body) × HasBody old.image old.layout facts.file.number body × (bytes_in Raw body ≡ Some bytes))
+    → user ≡ old.user → IsCopyable (Some user) to found facts name → ((body : Body) × HasBody old.image old.layout facts.file.number body × (bytes_in Raw body ≡ Some bytes))
     → lent ≡ bytes → IsCopyMade placing to name stamp facts lent old new → IsCopied placing to stamp found old new
 is_copied placing to stamp found old new user facts name bytes lent is copyable read same made = record {
   facts = facts;
   name = name;
-  copyable = subst (λ u. IsCopyable u to found facts name) is copyable;
+  copyable = subst (λ u. IsCopyable (Some u) to found facts name) is copyable;
   body = read.0;
   held = read.1;
   bytes = bytes;
@@ -107,15 +107,15 @@ is_copied placing to stamp found old new user facts name bytes lent is copyable 
 }
 
 -- it may not be copied
-pub may_not : (why : Why) (placing : Placing) (to : Target) (stamp : List ℕ) (found : Found) (old : Filed) (user : Uic) → user ≡ old.user → IsUncopyable user to found why → IsNotCopied placing to stamp found old old why
-may_not why placing to stamp found old user is reason = uncopyable why (subst (λ u. IsUncopyable u to found why) is reason) refl
+pub may_not : (why : Why) (placing : Placing) (to : Target) (stamp : List ℕ) (found : Found) (old : Filed) (user : Uic) → user ≡ old.user → IsUncopyable (Some user) to found why → IsNotCopied placing to stamp found old old why
+may_not why placing to stamp found old user is reason = uncopyable why (subst (λ u. IsUncopyable (Some u) to found why) is reason) refl
 
 -- its copy is not made
 pub not_copied : (why : Why) (placing : Placing) (to : Target) (stamp : List ℕ) (found : Found) (old new : Filed) (user : Uic) (facts : Facts) (name : RadName) (bytes lent : List ℕ)
-    → user ≡ old.user → IsCopyable user to found facts name → ((body : Body) × HasBody old.image old.layout facts.file.number body × (bytes_in Raw body ≡ Some bytes))
+    → user ≡ old.user → IsCopyable (Some user) to found facts name → ((body : Body) × HasBody old.image old.layout facts.file.number body × (bytes_in Raw body ≡ Some bytes))
     → lent ≡ bytes → IsCopyUnmade placing to name stamp facts lent old new why → IsNotCopied placing to stamp found old new why
 not_copied why placing to stamp found old new user facts name bytes lent is copyable read same refused =
-    unmade why facts name read.0 bytes (subst (λ u. IsCopyable u to found facts name) is copyable) read.1 read.2 (subst (λ b. IsCopyUnmade placing to name stamp facts b old new why) same refused)
+    unmade why facts name read.0 bytes (subst (λ u. IsCopyable (Some u) to found facts name) is copyable) read.1 read.2 (subst (λ b. IsCopyUnmade placing to name stamp facts b old new why) same refused)
 
 -- where the others are copied after one more, all that are left are
 pub copied_on : (placing : Placing) (to : Target) (stamp : List ℕ) (all : List Found) (i : ℕ) (x : Found) (mid next new : Filed) → i < length all → x ≡ get_or all i x → IsCopied placing to stamp x mid next → AreCopied placing to stamp (drop (i + 1) all) next new
@@ -133,15 +133,15 @@ pub stops_here : (placing : Placing) (to : Target) (stamp : List ℕ) (all : Lis
 stops_here placing to stamp all i x mid new failure within is said stays = subst (λ l. StopsCopying placing to stamp l mid new failure) (sym (left_from all i x within is)) (inl (said, stays))
 
 -- one more may be copied
-pub may_on : (user : Uic) (to : Target) (all : List Found) (i : ℕ) (x : Found) → i < length all → x ≡ get_or all i x → MayBeCopied user to x → MayAllBeCopied user to (drop (i + 1) all) → MayAllBeCopied user to (drop i all)
-may_on user to all i x within is one rest = subst (MayAllBeCopied user to) (sym (left_from all i x within is)) (one, rest)
+pub may_on : (reader : Option Uic) (to : Target) (all : List Found) (i : ℕ) (x : Found) → i < length all → x ≡ get_or all i x → MayBeCopied reader to x → MayAllBeCopied reader to (drop (i + 1) all) → MayAllBeCopied reader to (drop i all)
+may_on reader to all i x within is one rest = subst (MayAllBeCopied reader to) (sym (left_from all i x within is)) (one, rest)
 
-pub first_on : (user : Uic) (to : Target) (all : List Found) (i : ℕ) (x : Found) (failure : Failure) → i < length all → x ≡ get_or all i x → MayBeCopied user to x → IsFirstUncopyable user to (drop (i + 1) all) failure
-    → IsFirstUncopyable user to (drop i all) failure
-first_on user to all i x failure within is one first = subst (λ l. IsFirstUncopyable user to l failure) (sym (left_from all i x within is)) (inr (one, first))
+pub first_on : (reader : Option Uic) (to : Target) (all : List Found) (i : ℕ) (x : Found) (failure : Failure) → i < length all → x ≡ get_or all i x → MayBeCopied reader to x → IsFirstUncopyable reader to (drop (i + 1) all) failure
+    → IsFirstUncopyable reader to (drop i all) failure
+first_on reader to all i x failure within is one first = subst (λ l. IsFirstUncopyable reader to l failure) (sym (left_from all i x within is)) (inr (one, first))
 
 -- one may not
-pub first_here : (user : Uic) (to : Target) (all : List Found) (i : ℕ) (x : Found) (text : List ℕ) (why : Why) (failure : Failure) → i < length all → x ≡ get_or all i x → IsUncopyable user to x why
-    → failure.why ≡ why → text ≡ string_bytes x.path → HasPath failure text → IsFirstUncopyable user to (drop i all) failure
-first_here user to all i x text why failure within is may_not reason path said =
-    subst (λ l. IsFirstUncopyable user to l failure) (sym (left_from all i x within is)) (inl (subst (IsUncopyable user to x) (sym reason) may_not, subst (HasPath failure) path said))
+pub first_here : (reader : Option Uic) (to : Target) (all : List Found) (i : ℕ) (x : Found) (text : List ℕ) (why : Why) (failure : Failure) → i < length all → x ≡ get_or all i x → IsUncopyable reader to x why
+    → failure.why ≡ why → text ≡ string_bytes x.path → HasPath failure text → IsFirstUncopyable reader to (drop i all) failure
+first_here reader to all i x text why failure within is may_not reason path said =
+    subst (λ l. IsFirstUncopyable reader to l failure) (sym (left_from all i x within is)) (inl (subst (IsUncopyable reader to x) (sym reason) may_not, subst (HasPath failure) path said))

@@ -2,7 +2,6 @@
 use Rattle.std.proofs.Common.{◌≡◌, ◌+◌, ◌<◌, ◌∙◌, refl, sym, ap, subst, ℕ, List, length, get_or, drop, Some, inl, inr}
 use Rattle.std.specs.String.{string_bytes}
 use Rattle.ods_base.specs.Name.{RadName}
-use Rattle.ods_base.specs.declared.file_id.Uic.{Uic}
 use Rattle.ods_files.specs.Body.{Body, HasBody, bytes_in}
 use Rattle.ods_files.specs.declared.form.Form.TheVariants.{Raw}
 use Rattle.ods_space.specs.Layout.{VolumeLayout}
@@ -38,14 +37,14 @@ as_asked P how to place stamp date found facts placing bytes lent placed goes da
     (subst (λ b. P placing place date b) same holds)))
 
 -- a file is copied
-pub is_copied_over : (I : List (List ℕ)) (L : VolumeLayout) (how : CopyFrom) (to place : Target) (stamp date : List ℕ) (found : Found) (old new : Filed) (user : Uic) (facts : Facts) (name : RadName) (placing : Placing) (bytes lent : List ℕ)
-    → user ≡ old.user → IsCopyable user to found facts name → ((body : Body) × HasBody I L facts.file.number body × (bytes_in Raw body ≡ Some bytes))
+pub is_copied_over : (I : List (List ℕ)) (L : VolumeLayout) (how : CopyFrom) (to place : Target) (stamp date : List ℕ) (found : Found) (old new : Filed) (facts : Facts) (name : RadName) (placing : Placing) (bytes lent : List ℕ)
+    → IsCopyable how.reader to found facts name → ((body : Body) × HasBody I L facts.file.number body × (bytes_in Raw body ≡ Some bytes))
     → placing ≡ placing_of how facts → place ≡ target_for to found facts how.next → date ≡ stamp_for facts stamp → lent ≡ bytes
     → IsCopyMade placing place name date facts lent old new → IsCopiedOver I L how to stamp found old new
-is_copied_over I L how to place stamp date found old new user facts name placing bytes lent is copyable read placed goes dated same made = record {
+is_copied_over I L how to place stamp date found old new facts name placing bytes lent copyable read placed goes dated same made = record {
   facts = facts;
   name = name;
-  copyable = subst (λ u. IsCopyable u to found facts name) is copyable;
+  copyable = copyable;
   body = read.0;
   held = read.1;
   bytes = bytes;
@@ -54,22 +53,22 @@ is_copied_over I L how to place stamp date found old new user facts name placing
 }
 
 -- it may not be copied
-pub may_not_over : (why : Why) (I : List (List ℕ)) (L : VolumeLayout) (how : CopyFrom) (to : Target) (stamp : List ℕ) (found : Found) (old : Filed) (user : Uic) → user ≡ old.user → IsUncopyable user to found why
+pub may_not_over : (why : Why) (I : List (List ℕ)) (L : VolumeLayout) (how : CopyFrom) (to : Target) (stamp : List ℕ) (found : Found) (old : Filed) → IsUncopyable how.reader to found why
     → IsNotCopiedOver I L how to stamp found old old why
-may_not_over why I L how to stamp found old user is reason = uncopyable why (subst (λ u. IsUncopyable u to found why) is reason) refl
+may_not_over why I L how to stamp found old reason = uncopyable why reason refl
 
 -- its bytes are not read
-pub unread_over : (why : Why) (I : List (List ℕ)) (L : VolumeLayout) (how : CopyFrom) (to : Target) (stamp : List ℕ) (found : Found) (old : Filed) (user : Uic) (facts : Facts) (name : RadName) → user ≡ old.user
-    → IsCopyable user to found facts name → IsUnread I L facts.file.number why → IsNotCopiedOver I L how to stamp found old old why
-unread_over why I L how to stamp found old user facts name is copyable reason = unread why facts name (subst (λ u. IsCopyable u to found facts name) is copyable) reason refl
+pub unread_over : (why : Why) (I : List (List ℕ)) (L : VolumeLayout) (how : CopyFrom) (to : Target) (stamp : List ℕ) (found : Found) (old : Filed) (facts : Facts) (name : RadName)
+    → IsCopyable how.reader to found facts name → IsUnread I L facts.file.number why → IsNotCopiedOver I L how to stamp found old old why
+unread_over why I L how to stamp found old facts name copyable reason = unread why facts name copyable reason refl
 
 -- its copy is not made
-pub not_copied_over : (why : Why) (I : List (List ℕ)) (L : VolumeLayout) (how : CopyFrom) (to place : Target) (stamp date : List ℕ) (found : Found) (old new : Filed) (user : Uic) (facts : Facts) (name : RadName) (placing : Placing) (bytes lent : List ℕ)
-    → user ≡ old.user → IsCopyable user to found facts name → ((body : Body) × HasBody I L facts.file.number body × (bytes_in Raw body ≡ Some bytes))
+pub not_copied_over : (why : Why) (I : List (List ℕ)) (L : VolumeLayout) (how : CopyFrom) (to place : Target) (stamp date : List ℕ) (found : Found) (old new : Filed) (facts : Facts) (name : RadName) (placing : Placing) (bytes lent : List ℕ)
+    → IsCopyable how.reader to found facts name → ((body : Body) × HasBody I L facts.file.number body × (bytes_in Raw body ≡ Some bytes))
     → placing ≡ placing_of how facts → place ≡ target_for to found facts how.next → date ≡ stamp_for facts stamp → lent ≡ bytes
     → IsCopyUnmade placing place name date facts lent old new why → IsNotCopiedOver I L how to stamp found old new why
-not_copied_over why I L how to place stamp date found old new user facts name placing bytes lent is copyable read placed goes dated same refused =
-    unmade why facts name read.0 bytes (subst (λ u. IsCopyable u to found facts name) is copyable) read.1 read.2
+not_copied_over why I L how to place stamp date found old new facts name placing bytes lent copyable read placed goes dated same refused =
+    unmade why facts name read.0 bytes copyable read.1 read.2
     (as_asked (λ p t s b. IsCopyUnmade p t name s facts b old new why) how to place stamp date found facts placing bytes lent placed goes dated same refused)
 
 -- where the others are copied after one more, all that are left are

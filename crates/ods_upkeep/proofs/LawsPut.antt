@@ -16,7 +16,7 @@ use Rattle.ods_files.specs.Body.{Body, bytes_in}
 use Rattle.ods_files.specs.declared.form.Form.TheVariants as form
 use Rattle.ods_filing.specs.Filed.{Filed}
 use Rattle.ods_filing.specs.Laws.{GivesBack, ShowsBytes}
-use Rattle.ods_filing.specs.Put.{blocks_with}
+use Rattle.ods_filing.specs.Put.{Heading, blocks_with}
 use Rattle.ods_records.specs.Attributes.{attributes, end_block, end_of, is_controlled, kind_in}
 use Rattle.ods_records.specs.Lines.{IsPlainText}
 use Rattle.ods_records.specs.Records.{Spells, text_of, word_at}
@@ -40,6 +40,7 @@ use Rattle.ods_upkeep.specs.HostPut.{IsVersionFor}
 use Rattle.ods_upkeep.specs.Pieces.{with_end}
 use Rattle.ods_upkeep.specs.PutBack.{AFile, AFolder, AreItemsPut, IsFolderThere, IsItemBack, IsItemPut, IsLeafBack, KeepsBytes, LeafComesBack, TreeComesBack, TreeItem}
 use Rattle.ods_upkeep.specs.TreeNames.{IsTreeName, SaysFolders}
+use Rattle.ods_upkeep.specs.PutFor.{IsProtected}
 use Rattle.ods_upkeep.specs.TreePut.{IsFolderPut, IsLeafPut}
 use Rattle.ods_upkeep.specs.Wayside.{IsParted}
 use Rattle.ods_upkeep.specs.Written.{AreBytes, AreRecords, IsByContents, IsWritten}
@@ -221,14 +222,19 @@ module _ (how : TreeForm) (dir : FileId) (path bytes : List ℕ) (old new : File
   leaf_seen : IsAllLeft leaf.there leaf.put.put.seen
   leaf_seen =
       let done = leaf.put.put in
-      left_next leaf.there done.mid done.seen (left_same leaf.there done.mid done.room.2) (left_version done.mid done.seen leaf.place leaf.put.name (option_or done.free leaf.version) done.version done.next)
+      left_next leaf.there done.mid done.seen (left_same leaf.there done.mid done.room.3) (left_version done.mid done.seen leaf.place leaf.put.name (option_or done.free leaf.version) done.version done.next)
 
   -- and when it is made
   leaf_made : (C : Catalogue) → ShowsBy leaf.put.put.seen.image leaf.put.put.seen.layout C
       → IsPlainLeft C leaf.place (option_or leaf.put.put.free leaf.version) (record { name = leaf.put.name; version = leaf.put.put.version; stamp = how.stamp }) leaf.put.attributes leaf.put.stored leaf.put.put.file new
   leaf_made C s =
       let done = leaf.put.put in
-      made_left how.placing (unwrap_or how.owner leaf.there.user) leaf.place (option_or done.free leaf.version) (record { name = leaf.put.name; version = done.version; stamp = how.stamp }) leaf.put.attributes leaf.put.stored done.file done.seen new C s done.made
+      let heading : Heading = record { name = leaf.put.name; version = done.version; stamp = how.stamp } in
+      let own = leaf.put.attributes in
+      let stored = leaf.put.stored in
+      let same : new ≡ done.filed = subst (λ o. IsProtected o done.file done.filed new) done.room.1 done.given in
+      subst (λ f. IsPlainLeft C leaf.place (option_or done.free leaf.version) heading own stored done.file f) (sym same)
+      (made_left how.placing (unwrap_or how.owner leaf.there.user) leaf.place (option_or done.free leaf.version) heading own stored done.file done.seen done.filed C s done.made)
 
   -- its form is the one that is said
   leaf_written : IsWritten how.form None bytes leaf.put.attributes leaf.put.stored

@@ -17,7 +17,8 @@ use Rattle.ods_filing.proofs.Led.{allows_more, led_to, obeyed, same_user, stays,
 use Rattle.ods_upkeep.specs.HostPut.{AreCountedOn, AreNotedOn, IsHostPut, IsPutAs, IsStill, IsVersionFor}
 use Rattle.ods_upkeep.specs.Kinds.{Copies, Puts}
 use Rattle.ods_upkeep.specs.Left.{InPut, replaces}
-use Rattle.ods_upkeep.specs.PutFor.{IsMadeFor, IsPut, IsStored}
+use Rattle.ods_upkeep.specs.Legs.{IsLeg, IsPutLed}
+use Rattle.ods_upkeep.specs.PutFor.{IsMadeFor, IsProtected, IsPut, IsStored}
 use Rattle.ods_upkeep.specs.Removed.{Does}
 use Rattle.ods_upkeep.specs.Rooms.{IsFreed, IsRoomMade, IsThere, counts_left, file_left, pick_for}
 use Rattle.ods_upkeep.specs.Versions.{Noted}
@@ -49,27 +50,33 @@ file_leaves true counts file = deletes (nat_eq (counts file.number) 0) file
 file_leaves false counts file = All-nil (Permits (Puts true))
 
 -- it is looked at
-shown_led : (there : Bool) (file : FileId) (old new : Filed) → IsThere old file there new → IsLed (Puts true) old new
-shown_led true file old new shown = obeyed (Stat file) refl (_, shown.1)
-shown_led false file old new shown = led_to new shown.1 (stays old)
+shown_led : (held : Option ℕ) (file : FileId) (old new : Filed) → IsThere old file held new → IsLed (Puts true) old new
+shown_led (Some protection) file old new shown = obeyed (Stat file) refl (_, shown.1)
+shown_led None file old new shown = led_to new shown.1 (stays old)
 
-freed_led : (dir : FileId) (name : RadName) (said : Option ℕ) (version : ℕ) (before after : List ℕ) (old new : Filed) → IsFreed dir name said version before after old new → IsLed (Puts true) old new
-freed_led dir name said version before after old new freed =
+freed_led : (dir : FileId) (name : RadName) (said : Option ℕ) (version : ℕ) (held : Option ℕ) (before after : List ℕ) (old new : Filed) → IsFreed dir name said version held before after old new → IsLed (Puts true) old new
+freed_led dir name said version held before after old new freed =
     let r = freed.replaced in
-    let left : List Request = file_left r.there (counts_left r.there (slice_index before) freed.file) freed.file in
+    let there : Bool = is_some held in
+    let left : List Request = file_left there (counts_left there (slice_index before) freed.file) freed.file in
     let gone : IsLed (Puts true) r.known new =
     does_led (Remove dir name (Exact version) ∷ left)
-    (All-cons (Permits (Puts true)) (Asks (Remove dir name (Exact version))) (map Asks left) refl (file_leaves r.there (counts_left r.there (slice_index before) freed.file) freed.file)) r.gone in
-    then_led (obeyed (LookUp dir name (pick_for said)) tt (_, freed.found)) (then_led (shown_led r.there freed.file freed.seen r.known r.shown) gone)
+    (All-cons (Permits (Puts true)) (Asks (Remove dir name (Exact version))) (map Asks left) refl (file_leaves there (counts_left there (slice_index before) freed.file) freed.file)) r.gone in
+    then_led (obeyed (LookUp dir name (pick_for said)) tt (_, freed.found)) (then_led (shown_led held freed.file freed.seen r.known r.shown) gone)
 
 -- room is made
-pub room_led : (dir : FileId) (name : RadName) (said free : Option ℕ) (before after : Option (List ℕ)) (old new : Filed) → IsRoomMade dir name said free before after old new
+pub room_led : (dir : FileId) (name : RadName) (said free held : Option ℕ) (before after : Option (List ℕ)) (old new : Filed) → IsRoomMade dir name said free held before after old new
     → IsLed (Puts (is_some before)) old new
-room_led dir name said free None after old new room = led_to new room.2 (stays old)
-room_led dir name said free (Some before) after old new room = elim room [
+room_led dir name said free held None after old new room = led_to new room.3 (stays old)
+room_led dir name said free held (Some before) after old new room = elim room [
   | inl none ↦ led_to new none.0.2 (stays old)
-  | inr one ↦ freed_led dir name said one.0 before one.1.0 old new one.1.3
+  | inr one ↦ freed_led dir name said one.0 held before one.1.0 old new one.1.3
 ]
+
+-- no protection is known of a file where none is replaced
+none_held : (dir : FileId) (name : RadName) (said free held : Option ℕ) (before after : Option (List ℕ)) (old new : Filed) → IsRoomMade dir name said free held before after old new → is_some before ≡ false → held ≡ None
+none_held dir name said free held None after old new room none = room.1
+none_held dir name said free held (Some before) after old new room none = absurd (let wrong : true ≡ false = none in cc)
 
 -- the version is known, or looked up
 pub version_led : (replaces : Bool) (highest : Option Noted) (old : Filed) (dir : FileId) (name : RadName) (said : Option ℕ) (version : ℕ) (new : Filed)
@@ -82,19 +89,20 @@ version_led replaces None old dir name None version new is = elim is [
 ]
 
 -- what is put, by what each step of it leaves
-pub put_as : (p q : InPut) (name : RadName) (attributes bytes all : List ℕ) (old mid seen new : Filed) (free said : Option ℕ) (left : Option (List ℕ)) (version : ℕ) (user owner : Uic) (file : FileId)
-    → IsRoomMade p.target.directory name p.target.version free p.names left old mid → said ≡ option_or free p.target.version
+pub put_as : (p q : InPut) (name : RadName) (attributes bytes all : List ℕ) (old mid seen filed new : Filed) (free held said : Option ℕ) (left : Option (List ℕ)) (version : ℕ) (user owner : Uic) (file : FileId)
+    → IsRoomMade p.target.directory name p.target.version free held p.names left old mid → said ≡ option_or free p.target.version
     → IsVersionFor p.highest mid p.target.directory name said version seen → user ≡ seen.user → owner ≡ unwrap_or p.owner user → bytes ≡ all
-    → IsMadeFor p.placing owner p.target.directory said (record { name = name; version = version; stamp = p.stamp }) attributes bytes file seen new
-    → AreCountedOn left file q.names → AreNotedOn p.highest name version q.highest → IsStill p q → IsPutAs p name attributes all old q new
-put_as p q name attributes bytes all old mid seen new free said left version user owner file room is next asks owns same made counted noted still =
+    → IsMadeFor p.placing owner p.target.directory said (record { name = name; version = version; stamp = p.stamp }) attributes bytes file seen filed
+    → IsProtected held file filed new → AreCountedOn left file q.names → AreNotedOn p.highest name version q.highest → IsStill p q → IsPutAs p name attributes all old q new
+put_as p q name attributes bytes all old mid seen filed new free held said left version user owner file room is next asks owns same made given counted noted still =
     let dir = p.target.directory in
     let heading : Heading = record { name = name; version = version; stamp = p.stamp } in
     let led : IsLed (Puts (is_some p.names)) old seen =
-    then_led (room_led dir name p.target.version free p.names left old mid room) (version_led (is_some p.names) p.highest mid dir name said version seen next) in
+    then_led (room_led dir name p.target.version free held p.names left old mid room) (version_led (is_some p.names) p.highest mid dir name said version seen next) in
     let whose : owner ≡ unwrap_or p.owner old.user = owns ∙ ap (λ u. unwrap_or p.owner u) (asks ∙ same_user led) in
     record {
       free = free;
+      held = held;
       left = left;
       mid = mid;
       room = room;
@@ -102,33 +110,49 @@ put_as p q name attributes bytes all old mid seen new free said left version use
       seen = seen;
       next = subst (λ s. IsVersionFor p.highest mid dir name s version seen) is next;
       file = file;
-      made = subst (λ u. IsMadeFor p.placing u dir (option_or free p.target.version) heading attributes all file seen new) whose
-          (subst (λ s. IsMadeFor p.placing owner dir s heading attributes all file seen new) is (subst (λ b. IsMadeFor p.placing owner dir said heading attributes b file seen new) same made));
+      filed = filed;
+      made = subst (λ u. IsMadeFor p.placing u dir (option_or free p.target.version) heading attributes all file seen filed) whose
+          (subst (λ s. IsMadeFor p.placing owner dir s heading attributes all file seen filed) is (subst (λ b. IsMadeFor p.placing owner dir said heading attributes b file seen filed) same made));
+      given = given;
       counted = counted;
       noted = noted;
       still = still;
     }
 
--- it is what the user's requests leave, and then a file that is made for its owner
-pub put_is : (p q : InPut) (host bytes : List ℕ) (old new : Filed) → IsHostPut p host bytes old q new → IsPut (Puts (replaces p)) p.placing p.owner old new
+-- it is what the user's requests leave, then a file that is made for its owner, and the protection of the one that it replaces
+pub put_is : (p q : InPut) (host bytes : List ℕ) (old new : Filed) → IsHostPut p host bytes old q new → IsPut (replaces p) p.placing p.owner old new
 put_is p q host bytes old new is =
     let put = is.put in
     let dir = p.target.directory in
     let said = option_or put.free p.target.version in
     record {
       mid = put.seen;
-      before = then_led (room_led dir is.name p.target.version put.free p.names put.left old put.mid put.room) (version_led (replaces p) p.highest put.mid dir is.name said put.version put.seen put.next);
+      before = then_led (room_led dir is.name p.target.version put.free put.held p.names put.left old put.mid put.room) (version_led (replaces p) p.highest put.mid dir is.name said put.version put.seen put.next);
       dir = dir;
       version = said;
       heading = record { name = is.name; version = put.version; stamp = p.stamp };
       attributes = is.attributes;
       bytes = is.stored;
       file = put.file;
+      filed = put.filed;
       made = put.made;
+      held = put.held;
+      alone = none_held dir is.name p.target.version put.free put.held p.names put.left old put.mid put.room;
+      given = put.given;
     }
 
 -- where no owner is said, and blocks may stand anywhere, all of it is asked for by the user
-pub own_put : (replaces : Bool) (placing : Placing) (said : Option Uic) (old new : Filed) → IsPut (Puts replaces) placing said old new → said ≡ None → placing ≡ Anywhere → IsLed (Puts replaces) old new
-own_put replaces placing said old new put none anywhere =
+own_filed : (replaces : Bool) (placing : Placing) (said : Option Uic) (old new : Filed) → (put : IsPut replaces placing said old new) → said ≡ None → placing ≡ Anywhere → IsLed (Puts replaces) old put.filed
+own_filed replaces placing said old new put none anywhere =
     let is : unwrap_or said old.user ≡ put.mid.user = ap (λ s. unwrap_or s old.user) none ∙ sym (same_user put.before) in
-    then_led put.before (allows_more (copies_puts replaces) (own_made put.dir put.version put.heading put.attributes put.bytes put.file put.mid new placing (unwrap_or said old.user) anywhere is put.made))
+    then_led put.before (allows_more (copies_puts replaces) (own_made put.dir put.version put.heading put.attributes put.bytes put.file put.mid put.filed placing (unwrap_or said old.user) anywhere is put.made))
+
+-- with a protection behind it, or none
+then_given : (held : Option ℕ) (file : FileId) (old filed new : Filed) → IsLed (Puts true) old filed → IsProtected held file filed new → IsPutLed true old new
+then_given None file old filed new led given = inl (led_to new given led)
+then_given (Some protection) file old filed new led given = let leg : IsLeg (Puts true) old new = record { mid = filed; led = led; file = file; protection = protection; given = given } in inr leg
+
+pub own_put : (replaces : Bool) (placing : Placing) (said : Option Uic) (old new : Filed) → IsPut replaces placing said old new → said ≡ None → placing ≡ Anywhere → IsPutLed replaces old new
+own_put true placing said old new put none anywhere = then_given put.held put.file old put.filed new (own_filed true placing said old new put none anywhere) put.given
+own_put false placing said old new put none anywhere =
+    led_to new (subst (λ o. IsProtected o put.file put.filed new) (put.alone refl) put.given) (own_filed false placing said old new put none anywhere)

@@ -13,11 +13,11 @@ use Rattle.ods_upkeep.specs.Counted.{one_less}
 use Rattle.ods_upkeep.specs.HostPut.{IsVersionFor}
 use Rattle.ods_upkeep.specs.Kinds.{Puts}
 use Rattle.ods_upkeep.specs.Left.{InPut}
-use Rattle.ods_upkeep.specs.PutFor.{IsMadeFor}
+use Rattle.ods_upkeep.specs.PutFor.{IsMadeFor, IsProtected, IsUnprotected}
 use Rattle.ods_upkeep.specs.Refused.{IsRefusedBy, StopsAt, no_memory}
 use Rattle.ods_upkeep.specs.Rooms.{IsRoomMade, counts_left, file_left}
 use Rattle.ods_upkeep.specs.Unfiled.{IsUnfiled}
-use Rattle.ods_upkeep.specs.Unput.{IsNotStored, IsReady, heading_in, unfiled, unnoted}
+use Rattle.ods_upkeep.specs.Unput.{IsNotStored, IsReady, heading_in, unfiled, unnoted, unprotected}
 use Rattle.ods_upkeep.specs.declared.failure.Why.{Why}
 use Rattle.ods_upkeep.proofs.PutLists.{room_led, version_led}
 
@@ -39,25 +39,33 @@ pub not_stored_of : (why : Why) {p q : InPut} (name : RadName) (attributes bytes
 not_stored_of why name attributes bytes old new same none = subst (λ v. IsNotStored v name attributes bytes old new why) same none
 
 -- Room is made, and the version is known; who is asked for then is the owner that is said, or the user.
-module _ (p : InPut) (name : RadName) (attributes bytes all : List ℕ) (old mid seen new : Filed) (free said : Option ℕ) (left : Option (List ℕ)) (version : ℕ) (user owner : Uic) (room : IsRoomMade p.target.directory name p.target.version free p.names left old mid) (is : said ≡ option_or free p.target.version) (next : IsVersionFor p.highest mid p.target.directory name said version seen) (asks : user ≡ seen.user) (owns : owner ≡ unwrap_or p.owner user) (same : bytes ≡ all) where
-  ready : IsReady p name old said version seen
+module _ (p : InPut) (name : RadName) (attributes bytes all : List ℕ) (old mid seen filed : Filed) (free held said : Option ℕ) (left : Option (List ℕ)) (version : ℕ) (user owner : Uic) (room : IsRoomMade p.target.directory name p.target.version free held p.names left old mid) (is : said ≡ option_or free p.target.version) (next : IsVersionFor p.highest mid p.target.directory name said version seen) (asks : user ≡ seen.user) (owns : owner ≡ unwrap_or p.owner user) (same : bytes ≡ all) where
+  ready : IsReady p name old said held version seen
   ready = record { free = free; left = left; mid = mid; room = room; entered = is; next = next }
 
   whose : owner ≡ unwrap_or p.owner old.user
   whose =
       let led : IsLed (Puts (is_some p.names)) old seen =
-      then_led (room_led p.target.directory name p.target.version free p.names left old mid room) (version_led (is_some p.names) p.highest mid p.target.directory name said version seen next) in
+      then_led (room_led p.target.directory name p.target.version free held p.names left old mid room) (version_led (is_some p.names) p.highest mid p.target.directory name said version seen next) in
       owns ∙ ap (λ u. unwrap_or p.owner u) (asks ∙ same_user led)
 
   -- the file is not made, or not entered
-  pub storing_stops : (why : Why) → IsUnfiled p.placing owner p.target.directory said (heading_in p name version) attributes bytes seen new why → IsNotStored p name attributes all old new why
-  storing_stops why refused = unfiled why said version seen ready
-      (subst (λ u. IsUnfiled p.placing u p.target.directory said (heading_in p name version) attributes all seen new why) whose
-      (subst (λ b. IsUnfiled p.placing owner p.target.directory said (heading_in p name version) attributes b seen new why) same refused))
+  pub storing_stops : (why : Why) → IsUnfiled p.placing owner p.target.directory said (heading_in p name version) attributes bytes seen filed why → IsNotStored p name attributes all old filed why
+  storing_stops why refused = unfiled why said held version seen ready
+      (subst (λ u. IsUnfiled p.placing u p.target.directory said (heading_in p name version) attributes all seen filed why) whose
+      (subst (λ b. IsUnfiled p.placing owner p.target.directory said (heading_in p name version) attributes b seen filed why) same refused))
 
-  -- it is, and its version is not noted
-  pub noting_stops : (file : FileId) → IsMadeFor p.placing owner p.target.directory said (heading_in p name version) attributes bytes file seen new → (why : Why) → (why ≡ no_memory) × (is_some p.highest ≡ true) → IsNotStored p name attributes all old new why
-  noting_stops file made why none = subst (IsNotStored p name attributes all old new) (sym none.0)
-      (unnoted said version seen file ready
-      (subst (λ u. IsMadeFor p.placing u p.target.directory said (heading_in p name version) attributes all file seen new) whose
-      (subst (λ b. IsMadeFor p.placing owner p.target.directory said (heading_in p name version) attributes b file seen new) same made)) none.1)
+  -- it is made by its owner
+  module _ (file : FileId) (made : IsMadeFor p.placing owner p.target.directory said (heading_in p name version) attributes bytes file seen filed) where
+    made_of : IsMadeFor p.placing (unwrap_or p.owner old.user) p.target.directory said (heading_in p name version) attributes all file seen filed
+    made_of =
+        subst (λ u. IsMadeFor p.placing u p.target.directory said (heading_in p name version) attributes all file seen filed) whose
+        (subst (λ b. IsMadeFor p.placing owner p.target.directory said (heading_in p name version) attributes b file seen filed) same made)
+
+    -- and does not get the protection
+    pub protecting_stops : (new : Filed) → new ≡ filed → (why : Why) → IsUnprotected held file filed why → IsNotStored p name attributes all old new why
+    protecting_stops new stays why none = subst (λ f. IsNotStored p name attributes all old f why) (sym stays) (unprotected why said held version seen file ready made_of none)
+
+    -- it does, and its version is not noted
+    pub noting_stops : (new : Filed) → IsProtected held file filed new → (why : Why) → (why ≡ no_memory) × (is_some p.highest ≡ true) → IsNotStored p name attributes all old new why
+    noting_stops new given why none = subst (IsNotStored p name attributes all old new) (sym none.0) (unnoted said held version seen file filed ready made_of given none.1)

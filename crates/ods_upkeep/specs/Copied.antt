@@ -1,5 +1,5 @@
 -- What cp does: for each file that is found a new one is created, with the bytes of all its blocks, its attributes and its protection.
-use Rattle.std.specs.Prelude.{◌≡◌, ◌≢◌, ◌⊎◌, ◌≤◌, ◌<◌, ◌*◌, ℕ, nat_lt, true, false, if◌then◌else◌, List, [], ◌∷◌, ◌++◌, length, take, drop, Option, Some, None}
+use Rattle.std.specs.Prelude.{◌≡◌, ◌≢◌, ◌⊎◌, ◌≤◌, ◌<◌, ◌*◌, ℕ, nat_lt, Bool, true, false, if◌then◌else◌, List, [], ◌∷◌, ◌++◌, length, take, drop, Option, Some, None}
 use Rattle.std.specs.Borrow.{Bor}
 use Rattle.ods_base.specs.Name.{RadName, Spells, directory_type}
 use Rattle.ods_base.specs.declared.file_id.FileId.{FileId}
@@ -45,23 +45,28 @@ IsNameOf None None facts name = Spells (before_version (ident_text facts.ident))
 abbrev pub NamesCopy : Target → Found → Facts → RadName → Type 0
 NamesCopy to found facts name = IsNameOf to.name found.place facts name
 
--- The file exists, is no directory, and is above 2; the user may read it; and its copy gets this name, which has another type than DIR.
-pub record IsCopyable (user : Uic) (to : Target) (found : Found) (facts : Facts) (name : RadName) : Type 0 where
+-- whether a file of which this is known may be read: this user may if the rights permit it, and without a user no rights are asked
+abbrev pub may_read : Option Uic → Facts → Bool
+may_read None facts = true
+may_read (Some user) facts = permits user facts.owner facts.protection Read
+
+-- The file exists, is no directory, and is above 2; it may be read; and its copy gets this name, which has another type than DIR.
+pub record IsCopyable (reader : Option Uic) (to : Target) (found : Found) (facts : Facts) (name : RadName) : Type 0 where
   pub known : found.facts ≡ Some facts
   pub above : 2 < facts.file.number
   pub plain : facts.kind ≢ Directory
-  pub readable : permits user facts.owner facts.protection Read ≡ true
+  pub readable : may_read reader facts ≡ true
   pub named : NamesCopy to found facts name
   pub other : name.ext ≢ directory_type
 
 -- why a file is not copied, as far as it can be determined before
-pub data IsUncopyable (user : Uic) (to : Target) (found : Found) : Why → Type 0 where
-  not_there : found.facts ≡ None → IsUncopyable user to found (Path fault.NoSuchFile)
-  reserved : (facts : Facts) → found.facts ≡ Some facts → facts.file.number ≤ 2 → IsUncopyable user to found (Request refusal.Reserved)
-  directory : (facts : Facts) → found.facts ≡ Some facts → facts.kind ≡ Directory → IsUncopyable user to found IsDirectory
-  denied : (facts : Facts) → found.facts ≡ Some facts → permits user facts.owner facts.protection Read ≡ false → IsUncopyable user to found (Request refusal.Denied)
-  nameless : (facts : Facts) → found.facts ≡ Some facts → ((name : RadName) → ¬ NamesCopy to found facts name) → IsUncopyable user to found BadName
-  of_directory : (facts : Facts) (name : RadName) → found.facts ≡ Some facts → NamesCopy to found facts name → name.ext ≡ directory_type → IsUncopyable user to found DirectoryType
+pub data IsUncopyable (reader : Option Uic) (to : Target) (found : Found) : Why → Type 0 where
+  not_there : found.facts ≡ None → IsUncopyable reader to found (Path fault.NoSuchFile)
+  reserved : (facts : Facts) → found.facts ≡ Some facts → facts.file.number ≤ 2 → IsUncopyable reader to found (Request refusal.Reserved)
+  directory : (facts : Facts) → found.facts ≡ Some facts → facts.kind ≡ Directory → IsUncopyable reader to found IsDirectory
+  denied : (facts : Facts) → found.facts ≡ Some facts → may_read reader facts ≡ false → IsUncopyable reader to found (Request refusal.Denied)
+  nameless : (facts : Facts) → found.facts ≡ Some facts → ((name : RadName) → ¬ NamesCopy to found facts name) → IsUncopyable reader to found BadName
+  of_directory : (facts : Facts) (name : RadName) → found.facts ≡ Some facts → NamesCopy to found facts name → name.ext ≡ directory_type → IsUncopyable reader to found DirectoryType
 
 -- why the bytes of file n are not read: out of memory, or the blocks show no such file with a whole chain
 abbrev pub IsUnread : List (List ℕ) → VolumeLayout → ℕ → Why → Type 0
@@ -98,7 +103,7 @@ pub record IsCopyMade (placing : Placing) (to : Target) (name : RadName) (stamp 
 pub record IsCopied (placing : Placing) (to : Target) (stamp : List ℕ) (found : Found) (old new : Filed) : Type 0 where
   pub facts : Facts
   pub name : RadName
-  pub copyable : IsCopyable old.user to found facts name
+  pub copyable : IsCopyable (Some old.user) to found facts name
   pub body : Body
   pub held : HasBody old.image old.layout facts.file.number body
   pub bytes : List ℕ

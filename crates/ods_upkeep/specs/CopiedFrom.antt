@@ -70,11 +70,11 @@ stamp_for facts stamp = if is_stamp (created_in facts.ident) then created_in fac
 abbrev pub placing_of : CopyFrom → Facts → Placing
 placing_of how facts = placing_by how.placing (Some facts)
 
--- A file of the other volume is copied. That volume has these blocks and this layout, with which the file has a whole chain.
+-- A file of the other volume is copied, which its reader may read. That volume has these blocks and this layout, with which the file has a whole chain.
 pub record IsCopiedOver (I : List (List ℕ)) (L : VolumeLayout) (how : CopyFrom) (to : Target) (stamp : List ℕ) (found : Found) (old new : Filed) : Type 0 where
   pub facts : Facts
   pub name : RadName
-  pub copyable : IsCopyable old.user to found facts name
+  pub copyable : IsCopyable how.reader to found facts name
   pub body : Body
   pub held : HasBody I L facts.file.number body
   pub bytes : List ℕ

@@ -11,7 +11,7 @@ use Rattle.ods_upkeep.specs.HostNames.{IsNameFor}
 use Rattle.ods_upkeep.specs.Kept.{IsKept}
 use Rattle.ods_upkeep.specs.Left.{InPut, replaced_version, replaces}
 use Rattle.ods_upkeep.specs.Looked.{IsNextVersion}
-use Rattle.ods_upkeep.specs.PutFor.{IsMadeFor}
+use Rattle.ods_upkeep.specs.PutFor.{IsMadeFor, IsProtected}
 use Rattle.ods_upkeep.specs.Remarks.{IsRemark}
 use Rattle.ods_upkeep.specs.Rooms.{IsRoomMade}
 use Rattle.ods_upkeep.specs.Versions.{IsNoted, Noted, behind, version_in}
@@ -47,18 +47,22 @@ pub record IsStill (p q : InPut) : Type 0 where
 
 -- A file of this name, these attributes and these bytes has been put, with the earlier facts; and these are the facts then.
 pub record IsPutAs (p : InPut) (name : RadName) (attributes bytes : List ℕ) (old : Filed) (q : InPut) (new : Filed) : Type 0 where
-  -- the version that is free then, if room is made for the file, and the volume then
+  -- the version that is free then, if room is made for the file, the protection of the file that it replaces, and the volume then
   pub free : Option ℕ
+  pub held : Option ℕ
   pub left : Option (List ℕ)
   pub mid : Filed
-  pub room : IsRoomMade p.target.directory name p.target.version free p.names left old mid
+  pub room : IsRoomMade p.target.directory name p.target.version free held p.names left old mid
   -- the version of its ident, and the volume when it is known
   pub version : ℕ
   pub seen : Filed
   pub next : IsVersionFor p.highest mid p.target.directory name (option_or free p.target.version) version seen
   -- the file is made by its owner, and entered under the version that is free or given, or the next one
   pub file : FileId
-  pub made : IsMadeFor p.placing (unwrap_or p.owner old.user) p.target.directory (option_or free p.target.version) (record { name = name; version = version; stamp = p.stamp }) attributes bytes file seen new
+  pub filed : Filed
+  pub made : IsMadeFor p.placing (unwrap_or p.owner old.user) p.target.directory (option_or free p.target.version) (record { name = name; version = version; stamp = p.stamp }) attributes bytes file seen filed
+  -- the user gives it the protection of the file that it replaces
+  pub given : IsProtected held file filed new
   -- it is counted, and its version is noted
   pub counted : AreCountedOn left file q.names
   pub noted : AreNotedOn p.highest name version q.highest

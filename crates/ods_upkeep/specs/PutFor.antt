@@ -1,11 +1,11 @@
 -- How a host file is put: with which attributes, why it is not, and for which owner.
-use Rattle.std.specs.Prelude.{◌≡◌, ◌≢◌, ◌⊎◌, ℕ, ◌<◌, ◌≤◌, ◌↔◌, if◌then◌else◌, nat_le, List, ◌++◌, take, drop, Option, Some, unwrap_or}
+use Rattle.std.specs.Prelude.{◌≡◌, ◌≢◌, ◌⊎◌, ℕ, ◌<◌, ◌≤◌, ◌↔◌, Bool, false, if◌then◌else◌, nat_le, List, ◌++◌, take, drop, Option, Some, None, unwrap_or}
 use Rattle.ods_base.specs.declared.file_id.FileId.{FileId}
 use Rattle.ods_base.specs.declared.file_id.Uic.{Uic}
-use Rattle.ods_request.specs.declared.requests.Request.{Request as AnyRequest}
 use Rattle.ods_request.specs.declared.requests.Request.TheVariants.{Enter}
 use Rattle.ods_request.specs.Catalogue.{Plain}
 use Rattle.ods_request.specs.declared.refusals.Refusal.{Refusal}
+use Rattle.ods_filing.specs.Amended.{HasGiven, IsWhyNotGiven}
 use Rattle.ods_filing.specs.Contiguous.{IsAddedInOnePiece, IsNotInOnePiece}
 use Rattle.ods_filing.specs.Filed.{Filed, for_another}
 use Rattle.ods_filing.specs.Led.{IsLed, IsObeyed, Fills}
@@ -21,6 +21,7 @@ use Rattle.ods_shell.specs.declared.status.Status.TheVariants.{Words, Refused}
 use Rattle.ods_shell.specs.Space.{HasFreeRun}
 use Rattle.ods_space.specs.Chain.{header_blocks}
 use Rattle.ods_space.specs.Layout.{VolumeLayout}
+use Rattle.ods_upkeep.specs.Kinds.{Puts}
 use Rattle.ods_upkeep.specs.declared.asked.Placing.{Placing}
 use Rattle.ods_upkeep.specs.declared.asked.Placing.TheVariants.{Anywhere, InOnePiece}
 use Rattle.ods_upkeep.specs.declared.failure.Why.{Why}
@@ -83,14 +84,29 @@ pub record IsMadeFor (placing : Placing) (owner : Uic) (dir : FileId) (version :
   pub stored : IsStored placing heading attributes bytes file (for_another old owner) made
   pub entered : IsObeyed (for_another made old.user) (Enter dir heading.name version file) new
 
--- What putting a file leaves: requests of the user, then a file that is made for the given owner, or else for the user, and nothing more.
-pub record IsPut (Allows : AnyRequest → Type 0) (placing : Placing) (said : Option Uic) (old new : Filed) : Type 0 where
+-- the user has given a file this protection, if there is one, and nothing else was done
+abbrev pub IsProtected : Option ℕ → FileId → Filed → Filed → Type 0
+IsProtected None file old new = new ≡ old
+IsProtected (Some protection) file old new = HasGiven old file None (Some protection) new
+
+-- why the user does not give it
+abbrev pub IsUnprotected : Option ℕ → FileId → Filed → Why → Type 0
+IsUnprotected None file old why = ⊥
+IsUnprotected (Some protection) file old why = (reason : Refusal) × (why ≡ Request reason) × IsWhyNotGiven old file reason
+
+-- What putting a file leaves: requests of the user, then a file that is made for the given owner, or else for the user. If files are replaced, the user
+-- may have given it a protection then. Nothing more was done.
+pub record IsPut (replaces : Bool) (placing : Placing) (said : Option Uic) (old new : Filed) : Type 0 where
   pub mid : Filed
-  pub before : IsLed Allows old mid
+  pub before : IsLed (Puts replaces) old mid
   pub dir : FileId
   pub version : Option ℕ
   pub heading : Heading
   pub attributes : List ℕ
   pub bytes : List ℕ
   pub file : FileId
-  pub made : IsMadeFor placing (unwrap_or said old.user) dir version heading attributes bytes file mid new
+  pub filed : Filed
+  pub made : IsMadeFor placing (unwrap_or said old.user) dir version heading attributes bytes file mid filed
+  pub held : Option ℕ
+  pub alone : replaces ≡ false → held ≡ None
+  pub given : IsProtected held file filed new

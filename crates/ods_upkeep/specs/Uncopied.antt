@@ -1,5 +1,5 @@
 -- When cp is refused: why, for which file, and what was copied before.
-use Rattle.std.specs.Prelude.{◌≡◌, ◌⊎◌, ◌≤◌, ◌*◌, ◌^◌, ℕ, List, [], ◌∷◌, length, Some}
+use Rattle.std.specs.Prelude.{◌≡◌, ◌⊎◌, ◌≤◌, ◌*◌, ◌^◌, ℕ, List, [], ◌∷◌, length, Option, Some}
 use Rattle.std.specs.Borrow.{Bor}
 use Rattle.std.specs.String.{string_bytes}
 use Rattle.ods_base.specs.Name.{RadName}
@@ -28,20 +28,20 @@ use Rattle.ods_upkeep.specs.declared.failure.Why.{Why}
 use Rattle.ods_upkeep.specs.declared.failure.Why.TheVariants.{Request}
 use Rattle.ods_upkeep.specs.declared.target.Target.{Target}
 
--- as far as it can be determined before, this file may be copied
-abbrev pub MayBeCopied : Uic → Target → Found → Type 0
-MayBeCopied user to f = (facts : Facts) × ((name : RadName) × IsCopyable user to f facts name)
+-- as far as it can be determined before, this file may be copied for this reader
+abbrev pub MayBeCopied : Option Uic → Target → Found → Type 0
+MayBeCopied reader to f = (facts : Facts) × ((name : RadName) × IsCopyable reader to f facts name)
 
 -- and so may all of these
-abbrev pub MayAllBeCopied : Uic → Target → List Found → Type 0
-MayAllBeCopied user to [] = Unit {0}
-MayAllBeCopied user to (f ∷ found) = MayBeCopied user to f × MayAllBeCopied user to found
+abbrev pub MayAllBeCopied : Option Uic → Target → List Found → Type 0
+MayAllBeCopied reader to [] = Unit {0}
+MayAllBeCopied reader to (f ∷ found) = MayBeCopied reader to f × MayAllBeCopied reader to found
 
 -- one of these may not, as the failure states; all before it may
-abbrev pub IsFirstUncopyable : Uic → Target → List Found → Failure → Type 0
-IsFirstUncopyable user to [] failure = ⊥
-IsFirstUncopyable user to (f ∷ found) failure =
-    (IsUncopyable user to f failure.why × HasPath failure (string_bytes f.path)) ⊎ (MayBeCopied user to f × IsFirstUncopyable user to found failure)
+abbrev pub IsFirstUncopyable : Option Uic → Target → List Found → Failure → Type 0
+IsFirstUncopyable reader to [] failure = ⊥
+IsFirstUncopyable reader to (f ∷ found) failure =
+    (IsUncopyable reader to f failure.why × HasPath failure (string_bytes f.path)) ⊎ (MayBeCopied reader to f × IsFirstUncopyable reader to found failure)
 
 -- Why no copy with these bytes is made of a file of which this is known: no volume has as many bytes as its blocks hold, and nothing was done; or the
 -- copy is not made or entered; or it is, and does not receive the protection.
@@ -56,9 +56,9 @@ pub data IsCopyUnmade (placing : Placing) (to : Target) (name : RadName) (stamp 
 
 -- Why a file is not copied when its turn comes: it may not be, or its bytes are not read, and nothing was done; or no copy is made.
 pub data IsNotCopied (placing : Placing) (to : Target) (stamp : List ℕ) (found : Found) (old new : Filed) : Why → Type 0 where
-  uncopyable : (why : Why) → IsUncopyable old.user to found why → new ≡ old → IsNotCopied placing to stamp found old new why
-  unread : (why : Why) (facts : Facts) (name : RadName) → IsCopyable old.user to found facts name → IsUnread old.image old.layout facts.file.number why → new ≡ old → IsNotCopied placing to stamp found old new why
-  unmade : (why : Why) (facts : Facts) (name : RadName) (body : Body) (bytes : List ℕ) → IsCopyable old.user to found facts name → HasBody old.image old.layout facts.file.number body
+  uncopyable : (why : Why) → IsUncopyable (Some old.user) to found why → new ≡ old → IsNotCopied placing to stamp found old new why
+  unread : (why : Why) (facts : Facts) (name : RadName) → IsCopyable (Some old.user) to found facts name → IsUnread old.image old.layout facts.file.number why → new ≡ old → IsNotCopied placing to stamp found old new why
+  unmade : (why : Why) (facts : Facts) (name : RadName) (body : Body) (bytes : List ℕ) → IsCopyable (Some old.user) to found facts name → HasBody old.image old.layout facts.file.number body
       → bytes_in Raw body ≡ Some bytes → IsCopyUnmade placing to name stamp facts bytes old new why → IsNotCopied placing to stamp found old new why
 
 -- These are copied, in order, up to one that is not.
@@ -71,8 +71,8 @@ StopsCopying placing to stamp (f ∷ found) old new failure =
 -- why not all of these are copied: one may not be, and nothing was done; or one is not
 abbrev pub AreNotCopied : Placing → Target → List ℕ → List Found → Filed → Filed → Failure → Type 0
 AreNotCopied placing to stamp found old new failure =
-    ((new ≡ old) × IsFirstUncopyable old.user to found failure)
-    ⊎ (MayAllBeCopied old.user to found × StopsCopying placing to stamp found old new failure)
+    ((new ≡ old) × IsFirstUncopyable (Some old.user) to found failure)
+    ⊎ (MayAllBeCopied (Some old.user) to found × StopsCopying placing to stamp found old new failure)
 
 -- Why not all files that these paths select are copied, and what was done before: there are no sources, or no target, and nothing was done; or not
 -- all of the sources are copied.

@@ -30,9 +30,9 @@ use Rattle.ods_upkeep.specs.declared.target.Target.{Target}
 
 -- Why a file of the other volume is not copied when its turn comes: it may not be, or its bytes are not read, and nothing was done; or no copy is made.
 pub data IsNotCopiedOver (I : List (List ℕ)) (L : VolumeLayout) (how : CopyFrom) (to : Target) (stamp : List ℕ) (found : Found) (old new : Filed) : Why → Type 0 where
-  uncopyable : (why : Why) → IsUncopyable old.user to found why → new ≡ old → IsNotCopiedOver I L how to stamp found old new why
-  unread : (why : Why) (facts : Facts) (name : RadName) → IsCopyable old.user to found facts name → IsUnread I L facts.file.number why → new ≡ old → IsNotCopiedOver I L how to stamp found old new why
-  unmade : (why : Why) (facts : Facts) (name : RadName) (body : Body) (bytes : List ℕ) → IsCopyable old.user to found facts name → HasBody I L facts.file.number body → bytes_in Raw body ≡ Some bytes
+  uncopyable : (why : Why) → IsUncopyable how.reader to found why → new ≡ old → IsNotCopiedOver I L how to stamp found old new why
+  unread : (why : Why) (facts : Facts) (name : RadName) → IsCopyable how.reader to found facts name → IsUnread I L facts.file.number why → new ≡ old → IsNotCopiedOver I L how to stamp found old new why
+  unmade : (why : Why) (facts : Facts) (name : RadName) (body : Body) (bytes : List ℕ) → IsCopyable how.reader to found facts name → HasBody I L facts.file.number body → bytes_in Raw body ≡ Some bytes
       → IsCopyUnmade (placing_of how facts) (target_for to found facts how.next) name (stamp_for facts stamp) facts bytes old new why → IsNotCopiedOver I L how to stamp found old new why
 
 -- These are copied, in order, up to one that is not.
@@ -45,8 +45,8 @@ StopsCopyingOver I L how to stamp (f ∷ found) old new failure =
 -- why not all of these are copied: one may not be, and nothing was done; or one is not, and INDEXF.SYS may have grown for them
 abbrev pub AreNotCopiedOver : List (List ℕ) → VolumeLayout → CopyFrom → Target → List ℕ → List Found → Filed → Filed → Failure → Type 0
 AreNotCopiedOver I L how to stamp found old new failure =
-    ((new ≡ old) × IsFirstUncopyable old.user to found failure)
-    ⊎ (MayAllBeCopied old.user to found × ((ready : Filed) × MayHaveGrown (length found) old ready × StopsCopyingOver I L how to stamp found ready new failure))
+    ((new ≡ old) × IsFirstUncopyable how.reader to found failure)
+    ⊎ (MayAllBeCopied how.reader to found × ((ready : Filed) × MayHaveGrown (length found) old ready × StopsCopyingOver I L how to stamp found ready new failure))
 
 -- why a file that is passed over is not copied: a directory is not a file to copy, and otherwise it is one of the other volume's own files
 abbrev pub passed_why : Option Facts → Why

@@ -13,7 +13,7 @@ use Rattle.ods_upkeep.specs.HostNames.{IsNameFor, IsNoName, IsTyped, IsUntyped, 
 use Rattle.ods_upkeep.specs.HostPut.{IsFormOf, IsVersionFor}
 use Rattle.ods_upkeep.specs.Left.{InPut}
 use Rattle.ods_upkeep.specs.Looked.{IsSeen}
-use Rattle.ods_upkeep.specs.PutFor.{IsMadeFor}
+use Rattle.ods_upkeep.specs.PutFor.{IsMadeFor, IsProtected, IsUnprotected}
 use Rattle.ods_upkeep.specs.Refused.{StopsAt, no_memory}
 use Rattle.ods_upkeep.specs.Remarks.{AreSeen, IsRemarkOn}
 use Rattle.ods_upkeep.specs.Rooms.{IsNotPlain, IsRoomMade, IsThere, counts_left, file_left, pick_for}
@@ -41,8 +41,8 @@ IsNameless None host why = IsNoHostName host why
 abbrev pub IsNotReplaced : FileId → RadName → ℕ → FileId → List ℕ → Filed → Filed → Why → Type 0
 IsNotReplaced dir name version file before old new why =
     IsNotPlain old file new why
-    ⊎ ((there : Bool) × ((known : Filed) × IsThere old file there known
-    × StopsAt known (Remove dir name (Exact version) ∷ file_left there (counts_left there (slice_index before) file) file) new why))
+    ⊎ ((held : Option ℕ) × ((known : Filed) × IsThere old file held known
+    × StopsAt known (Remove dir name (Exact version) ∷ file_left (is_some held) (counts_left (is_some held) (slice_index before) file) file) new why))
 
 -- why no room is made for a name if files are replaced: an entry has it, and is not removed
 abbrev pub IsNoRoom : FileId → RadName → Option ℕ → Option (List ℕ) → Filed → Filed → Why → Type 0
@@ -50,13 +50,13 @@ IsNoRoom dir name said None old new why = ⊥
 IsNoRoom dir name said (Some before) old new why =
     (file : FileId) × ((version : ℕ) × ((seen : Filed) × IsSeen old dir name (pick_for said) file version seen × IsNotReplaced dir name version file before seen new why))
 
--- The new file can be made. There is room for it. The version under which it is entered is the one that is free or given, if there is one, and the
--- version of its ident is known.
-pub record IsReady (p : InPut) (name : RadName) (old : Filed) (under : Option ℕ) (version : ℕ) (new : Filed) : Type 0 where
+-- The new file can be made. There is room for it, and the file that it replaces, if there is one, has this protection. The version under which it is
+-- entered is the one that is free or given, if there is one, and the version of its ident is known.
+pub record IsReady (p : InPut) (name : RadName) (old : Filed) (under held : Option ℕ) (version : ℕ) (new : Filed) : Type 0 where
   pub free : Option ℕ
   pub left : Option (List ℕ)
   pub mid : Filed
-  pub room : IsRoomMade p.target.directory name p.target.version free p.names left old mid
+  pub room : IsRoomMade p.target.directory name p.target.version free held p.names left old mid
   pub entered : under ≡ option_or free p.target.version
   pub next : IsVersionFor p.highest mid p.target.directory name under version new
 
@@ -64,15 +64,18 @@ pub record IsReady (p : InPut) (name : RadName) (old : Filed) (under : Option �
 abbrev pub heading_in : InPut → RadName → ℕ → Heading
 heading_in p name version = record { name = name; version = version; stamp = p.stamp }
 
--- Why the written bytes are not put under a name. There is no room; or the file is not made or not entered. Or all of this is done, and there is no
--- memory to record its version.
+-- Why the written bytes are not put under a name. There is no room; or the file is not made or not entered. Or it is, and the user may not give it the
+-- protection of the file that it replaces. Or all of this is done, and there is no memory to record its version.
 pub data IsNotStored (p : InPut) (name : RadName) (attributes bytes : List ℕ) (old new : Filed) : Why → Type 0 where
   no_room : (why : Why) → IsNoRoom p.target.directory name p.target.version p.names old new why → IsNotStored p name attributes bytes old new why
-  unfiled : (why : Why) (under : Option ℕ) (version : ℕ) (mid : Filed) → IsReady p name old under version mid
+  unfiled : (why : Why) (under held : Option ℕ) (version : ℕ) (mid : Filed) → IsReady p name old under held version mid
       → IsUnfiled p.placing (unwrap_or p.owner old.user) p.target.directory under (heading_in p name version) attributes bytes mid new why → IsNotStored p name attributes bytes old new why
-  unnoted : (under : Option ℕ) (version : ℕ) (mid : Filed) (file : FileId) → IsReady p name old under version mid
-      → IsMadeFor p.placing (unwrap_or p.owner old.user) p.target.directory under (heading_in p name version) attributes bytes file mid new → is_some p.highest ≡ true
-      → IsNotStored p name attributes bytes old new no_memory
+  unprotected : (why : Why) (under held : Option ℕ) (version : ℕ) (mid : Filed) (file : FileId) → IsReady p name old under held version mid
+      → IsMadeFor p.placing (unwrap_or p.owner old.user) p.target.directory under (heading_in p name version) attributes bytes file mid new → IsUnprotected held file new why
+      → IsNotStored p name attributes bytes old new why
+  unnoted : (under held : Option ℕ) (version : ℕ) (mid : Filed) (file : FileId) (filed : Filed) → IsReady p name old under held version mid
+      → IsMadeFor p.placing (unwrap_or p.owner old.user) p.target.directory under (heading_in p name version) attributes bytes file mid filed → IsProtected held file filed new
+      → is_some p.highest ≡ true → IsNotStored p name attributes bytes old new no_memory
 
 -- the host file has a name on the volume, which is not of the type DIR
 pub record MayBeCalled (p : InPut) (host : List ℕ) (name : RadName) : Type 0 where

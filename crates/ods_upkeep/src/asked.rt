@@ -1,4 +1,6 @@
 //! The options of a command.
+use ods_base::Uic;
+
 /// The form in which the bytes of a host file are put.
 #[derive(Clone, Copy, Debug, PartialEq, Eq)]
 pub enum PutForm {
@@ -40,6 +42,8 @@ pub struct Removal {
 /// The options for copying files of another volume.
 #[derive(Clone, Copy, Debug, PartialEq, Eq)]
 pub struct CopyFrom {
+    /// The user whose rights are checked on the files of the other volume. Without one, each of them may be read.
+    pub reader: Option<Uic>,
     /// Where the blocks of the copies are allocated. Without a value, the blocks of a contiguous file are in one piece, and other blocks anywhere.
     pub placing: Option<Placing>,
     /// Whether each copy gets the next version of its name, instead of the version of the file.

@@ -5,7 +5,7 @@ ghost use Rattle.ods_base.specs.declared.name.Pick.{Pick};
 ghost use Rattle.ods_files.specs.Body.{Body, HasBody, bytes_in};
 ghost use Rattle.ods_header.specs.Text.{ident_text};
 ghost use Rattle.ods_shell.specs.HostNames.{before_version};
-ghost use Rattle.ods_upkeep.specs.{Copied.IsCopied, Copied.IsCopiedTo, Copied.IsCopyMade, Copied.IsCopyable, Copied.IsUncopyable, Copied.IsUnread, Copied.NamesCopy, Copied.why_unread as why_for, Kinds.Copies, Legs.IsLedGiving};
+ghost use Rattle.ods_upkeep.specs.{Copied.IsCopied, Copied.IsCopiedTo, Copied.IsCopyMade, Copied.IsCopyable, Copied.IsUncopyable, Copied.IsUnread, Copied.NamesCopy, Copied.may_read, Copied.why_unread as why_for, Kinds.Copies, Legs.IsLedGiving};
 ghost use Rattle.ods_upkeep.specs.declared.asked.Placing.TheVariants.{Anywhere};
 ghost use Rattle.ods_space.specs.Files.{FindsFiles};
 ghost use Rattle.ods_space.specs.Disks.{on};
@@ -53,22 +53,23 @@ pub fn copy_files(
         Unsaid::highest(Alone::Files),
     )?;
     let target = target_of(alloc, filing.mounted(), all.len(), to)?;
-    check_all(alloc, &all, &target, filing.user())?;
+    check_all(alloc, &all, &target, Some(filing.user()))?;
     copy_all(alloc, filing, placing, &all, &target, stamp)
 }
 
 /// Checks that each of these files can be copied to this target, as far as it can be determined before. The failure names the first file that cannot.
+/// Without a reader no rights are asked.
 pub(crate) fn check_all(
     alloc: Global,
     all: &[Found],
     target: &Target,
-    user: Uic,
+    reader: Option<Uic>,
 ) -> Result<(), Failure>
-    ensures ok { OnOk result (MayAllBeCopied user target.now all.now) }
-    ensures err { IfErr result (IsFirstUncopyable user target.now all.now) }
+    ensures ok { OnOk result (MayAllBeCopied reader target.now all.now) }
+    ensures err { IfErr result (IsFirstUncopyable reader target.now all.now) }
 {
     for found in all {
-        if let Err(why) = check(found, target, user) {
+        if let Err(why) = check(found, target, reader) {
             return Err(of_path(alloc, &found.path, why));
         }
     }
@@ -96,10 +97,14 @@ fn copy_all(
     Ok(())
 }
 
-/// Returns the facts of a file, and the name of its copy, if this user may copy it to this target.
-pub(crate) fn check(found: &Found, target: &Target, user: Uic) -> Result<(Facts, Name), Why>
-    ensures ok { IfOk result (λ r. IsCopyable user target.now found.now r.0 r.1) }
-    ensures err { IfErr result (IsUncopyable user target.now found.now) }
+/// Returns the facts of a file, and the name of its copy, if this user may copy it to this target. Without a user no rights are asked.
+pub(crate) fn check(
+    found: &Found,
+    target: &Target,
+    reader: Option<Uic>,
+) -> Result<(Facts, Name), Why>
+    ensures ok { IfOk result (λ r. IsCopyable reader target.now found.now r.0 r.1) }
+    ensures err { IfErr result (IsUncopyable reader target.now found.now) }
 {
     let Some(facts) = found.facts() else {
         return Err(Why::Path(PathFault::NoSuchFile));
@@ -110,7 +115,7 @@ pub(crate) fn check(found: &Found, target: &Target, user: Uic) -> Result<(Facts,
     if facts.kind == Kind::Directory {
         return Err(Why::IsDirectory);
     }
-    if !permits(&user, &facts.owner, facts.protection, Right::Read) {
+    if !may_read(reader, &facts) {
         return Err(Why::Request(Refusal::Denied));
     }
     let name = new_name(found, target, &facts)?;
@@ -118,6 +123,16 @@ pub(crate) fn check(found: &Found, target: &Target, user: Uic) -> Result<(Facts,
         return Err(Why::DirectoryType);
     }
     Ok((facts, name))
+}
+
+/// Whether this user may read a file. Without a user no rights are asked.
+fn may_read(reader: Option<Uic>, facts: &Facts) -> bool
+    ensures { result ≡ may_read reader facts.now }
+{
+    match reader {
+        Some(user) => permits(&user, &facts.owner, facts.protection, Right::Read),
+        None => true,
+    }
 }
 
 /// The name of the copy: the one that is said, that of the entry, or that of the header.
@@ -171,7 +186,7 @@ fn copy(
     ensures refused { IfErr result (IsNotCopied placing target.now stamp found.now filing.old filing.new) }
 {
     let user = filing.user();
-    let (facts, name) = check(found, target, user)?;
+    let (facts, name) = check(found, target, Some(user))?;
     let bytes = all_bytes(alloc, filing, facts.file)?;
     make_copy(alloc, filing, placing, target, name, stamp, &facts, &bytes)
 }

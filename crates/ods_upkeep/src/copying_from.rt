@@ -25,7 +25,8 @@ use std::alloc::Global;
 
 /// Copies files of another volume to a directory of this one, or one file to a name there. A copy has all their blocks, their attributes, their
 /// protection and their dates of creation. `stamp` replaces a date that is not valid. Directories and the other volume's own files are passed over,
-/// and refused if nothing else is found. A path that finds two entries of one directory with one name and version is refused.
+/// and refused if nothing else is found. A path that finds two entries of one directory with one name and version is refused. Rights on the other volume
+/// are checked only of the reader, if there is one.
 pub fn copy_from(
     alloc: Global,
     filing: &mut Filing,
@@ -64,7 +65,7 @@ pub(crate) fn copy_each(
     ensures done { OnOk result (on AreAllCopiedOver other.now how.now target.now stamp files.now filing.old filing.new) }
     ensures refused { IfErr result (on AreNotCopiedOver other.now how.now target.now stamp files.now filing.old filing.new) }
 {
-    check_all(alloc, files, target, filing.user())?;
+    check_all(alloc, files, target, how.reader)?;
     make_ready(filing, files.len());
     copy_all_over(alloc, filing, other, how, files, target, stamp)
 }
@@ -186,8 +187,7 @@ fn copy_over(
     ensures done { OnOk result (on IsCopiedOver other.now how.now target.now stamp found.now filing.old filing.new) }
     ensures refused { IfErr result (on IsNotCopiedOver other.now how.now target.now stamp found.now filing.old filing.new) }
 {
-    let user = filing.user();
-    let (facts, name) = check(found, target, user)?;
+    let (facts, name) = check(found, target, how.reader)?;
     let bytes = bytes_on(alloc, other, facts.file)?;
     let place = target_for(target, found, &facts, how.next);
     let placing = placing_like(how.placing, &facts);

@@ -3,7 +3,6 @@ ghost use Rattle.std.specs.Prelude.{◌≡◌, ◌↔◌, IsTrue, IfOk};
 ghost use Rattle.ods_space.specs.Disks.{on};
 ghost use Rattle.ods_space.specs.Files.{FindsFiles};
 ghost use Rattle.ods_records.specs.Attributes.{kind_in};
-ghost use Rattle.ods_shell.specs.Contents.{is_line_stream as line_stream};
 ghost use Rattle.ods_upkeep.specs.Before.{AreOfPick, IsBefore, IsPicked, pick_of};
 ghost use Rattle.ods_upkeep.specs.Kept.{has_no_form as no_form, AreRaw, AreRawRecords, IsKept, StayBytes, StayLines};
 
@@ -12,10 +11,9 @@ use crate::attributes::are_zeros;
 use crate::written::is_put_as_text;
 use ods_base::{FileId, Listed, Name};
 use ods_records::{
-    RecordKind, TextForm, is_controlled, is_plain_text, is_text, kind_of, record_size,
-    survey_records, text_form,
+    RecordKind, is_controlled, is_plain_text, is_text, kind_of, record_size, survey_records,
 };
-use ods_shell::{Kind, facts_by_id, is_directory_file};
+use ods_shell::{Kind, facts_by_id, is_directory_file, is_line_stream};
 use ods_space::Disk;
 use ods_walk::entries_of;
 use std::alloc::{AllocError, Global};
@@ -148,14 +146,4 @@ fn are_raw_records(kind: RecordKind, own: &[u8; 32], bytes: &[u8]) -> bool
     };
     let size = record_size(own);
     (size == 0 || survey.longest <= usize::from(size)) && !survey.come_as_lines(own)
-}
-
-/// Whether a file with these attributes is a stream of lines.
-fn is_line_stream(attributes: &[u8; 32]) -> bool
-    ensures { result ≡ line_stream attributes.now }
-{
-    match text_form(attributes) {
-        TextForm::Stream => attributes[1] == 2,
-        _ => false,
-    }
 }

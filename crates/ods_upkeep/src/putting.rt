@@ -1,10 +1,9 @@
 //! `put`: puts files of the host one by one.
-ghost use Rattle.std.specs.Prelude.{◌≡◌, is_some, not, ◌&&◌, false, true, None, IfErr, IfOk, MatchResult, OnOk};
-ghost use Rattle.ods_filing.specs.Led.{IsLed};
+ghost use Rattle.std.specs.Prelude.{◌≡◌, is_some, not, ◌&&◌, false, true, None, IfErr, IfOk, MatchResult, OnErr, OnOk};
 ghost use Rattle.ods_upkeep.specs.{Begun.AreKept, Begun.AreNames, Begun.IsBegun, Begun.count_of, Begun.keeps_form, Begun.path_to};
 ghost use Rattle.ods_upkeep.specs.{HostPut.AreCountedOn, HostPut.AreNotedOn, HostPut.IsFormFor, HostPut.IsHostPut, HostPut.IsPutAs, HostPut.IsRemarkFor, HostPut.IsStill, HostPut.IsVersionFor};
 ghost use Rattle.ods_upkeep.specs.declared.asked.Placing.TheVariants.{Anywhere};
-ghost use Rattle.ods_upkeep.specs.{Kinds.Puts, Left.at_time, Left.replaced_version, Left.replaces, PutFor.IsPut, Ready.MayHaveGrown, Refused.HasPath, Refused.IsOutOfMemory, Refused.no_memory, Remarks.IsRemarkOn};
+ghost use Rattle.ods_upkeep.specs.{Left.at_time, Left.replaced_version, Left.replaces, Legs.IsPutLed, PutFor.IsProtected, PutFor.IsPut, PutFor.IsUnprotected, Ready.MayHaveGrown, Refused.HasPath, Refused.IsOutOfMemory, Refused.no_memory, Remarks.IsRemarkOn};
 ghost use Rattle.ods_upkeep.specs.{Unbegun.IsNotBegun, Unput.IsNotPut, Unput.IsNotStored, Written.bytes_of};
 
 use crate::asking::put_new;
@@ -121,10 +120,10 @@ impl Putting {
     ) -> Result<Option<String>, Failure>
         // It has the name, the attributes and the bytes that the host file gives, and what is known is what is there then.
         ensures done { OnOk result (IsHostPut self.old host.now.name.now host.now.bytes.now filing.old self.new filing.new) }
-        // Its owner makes the file, and the user enters it. Before that he makes room, where files are replaced.
-        ensures volume { OnOk result (IsPut (Puts (replaces self.old)) self.old.placing self.old.owner filing.old filing.new) }
-        // Where no owner is said, and blocks may stand anywhere, it is what LookUp, Create, Extend, Write, SetUser and Enter leave, and where files are replaced, Stat, Remove and Delete besides.
-        ensures own { self.old.owner ≡ None → self.old.placing ≡ Anywhere → OnOk result (IsLed (Puts (replaces self.old)) filing.old filing.new) }
+        // Its owner makes the file, and the user enters it. Where files are replaced, he makes room before that, and gives it a protection then.
+        ensures volume { OnOk result (IsPut (replaces self.old) self.old.placing self.old.owner filing.old filing.new) }
+        // Where no owner is said, and blocks may stand anywhere, it is what LookUp, Create, Extend, Write, SetUser and Enter leave, and where files are replaced, Stat, Remove and Delete besides, and a protection that is set then.
+        ensures own { self.old.owner ≡ None → self.old.placing ≡ Anywhere → OnOk result (IsPutLed (replaces self.old) filing.old filing.new) }
         ensures still { IsStill self.old self.new }
         ensures remark { IfOk result (IsRemarkFor self.old host.now.name.now host.now.bytes.now filing.old) }
         // Refused, it is so for a reason that holds, of the host file, and what was done for that is said.
@@ -207,7 +206,7 @@ impl Putting {
     {
         let dir = self.target.directory;
         let said = self.target.version;
-        let free = make_room(filing, dir, name, said, &mut self.names)?;
+        let (free, held) = make_room(filing, dir, name, said, &mut self.names)?;
         let said = free.or(said);
         let version = version_of(filing, dir, name, said, &self.highest);
         let file = NewFile {
@@ -219,6 +218,7 @@ impl Putting {
         };
         let owner = self.owner.unwrap_or(filing.user());
         let id = put_new(alloc, filing, self.placing, owner, dir, said, &file)?;
+        keep_protection(filing, id, held)?;
         count_name(&mut self.names, id);
         note_version(&mut self.highest, &name, version)
     }
@@ -338,6 +338,21 @@ fn version_of(
             Some(highest) => highest.next(&name),
             None => next_version(filing, dir, name, None),
         },
+    }
+}
+
+/// Gives a file the protection of the file that it replaces, if there is one.
+fn keep_protection(filing: &mut Filing, file: FileId, held: Option<u16>) -> Result<(), Why>
+    ensures given { OnOk result (IsProtected held file filing.old filing.new) }
+    ensures refused { IfErr result (IsUnprotected held file filing.old) }
+    ensures unchanged { OnErr result (filing.new ≡ filing.old) }
+{
+    let Some(protection) = held else {
+        return Ok(());
+    };
+    match filing.set_access(file, None, Some(protection)) {
+        Ok(()) => Ok(()),
+        Err(refusal) => Err(Why::Request(refusal)),
     }
 }
 

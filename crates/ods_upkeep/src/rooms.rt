@@ -12,26 +12,26 @@ use ods_filing::Filing;
 use ods_request::{Answer, Kind, Refusal, Request};
 
 /// If files are replaced and an entry has the name: removes it, and deletes its file if no other entry names it. Returns the version that is free
-/// then.
+/// then, and the protection of the file, if it exists.
 pub(crate) fn make_room(
     filing: &mut Filing,
     dir: FileId,
     name: Name,
     version: Option<u16>,
     names: &mut Option<Names>,
-) -> Result<Option<u16>, Why>
-    ensures room { IfOk result (λ free. IsRoomMade dir name version free names.old names.new filing.old filing.new) }
+) -> Result<(Option<u16>, Option<u16>), Why>
+    ensures room { IfOk result (λ made. IsRoomMade dir name version made.0 made.1 names.old names.new filing.old filing.new) }
     ensures replaces { is_some names.new ≡ is_some names.old }
     ensures err { IfErr result (IsNoRoom dir name version names.old filing.old filing.new) }
 {
     let Some(names) = names else {
-        return Ok(None);
+        return Ok((None, None));
     };
     let Some((file, found)) = look_up(filing, dir, name, pick_for(version)) else {
-        return Ok(None);
+        return Ok((None, None));
     };
-    replace(filing, dir, name, found, file, names)?;
-    Ok(Some(found))
+    let held = replace(filing, dir, name, found, file, names)?;
+    Ok((Some(found), held))
 }
 
 /// The version that is looked up: the one that is said, or the highest.
@@ -44,7 +44,7 @@ fn pick_for(version: Option<u16>) -> Pick
     }
 }
 
-/// This entry goes, and its file where no other entry names it.
+/// This entry goes, and its file where no other entry names it. Returns the protection of the file, if it exists.
 fn replace(
     filing: &mut Filing,
     dir: FileId,
@@ -52,12 +52,13 @@ fn replace(
     version: u16,
     file: FileId,
     names: &mut Names,
-) -> Result<(), Why>
-    ensures { MatchResult result (λ _. IsReplaced dir name version file names.old names.new filing.old filing.new) (IsNotReplaced dir name version file names.old filing.old filing.new) }
+) -> Result<Option<u16>, Why>
+    ensures { MatchResult result (λ held. IsReplaced dir name version file held names.old names.new filing.old filing.new) (IsNotReplaced dir name version file names.old filing.old filing.new) }
 {
-    let is_there = is_plain(filing, file)?;
+    let held = protection_of(filing, file)?;
     remove(filing, dir, name, version)?;
-    take_name(filing, is_there, file, names)
+    take_name(filing, held.is_some(), file, names)?;
+    Ok(held)
 }
 
 /// One entry less names the file, where it is there. It is deleted where none names it then.
@@ -81,23 +82,23 @@ fn take_name(
     Ok(())
 }
 
-/// Whether there is a file with this ID. A directory is not replaced, nor is a file of the system.
-fn is_plain(filing: &mut Filing, file: FileId) -> Result<bool, Why>
-    ensures ok { IfOk result (λ there. IsThere filing.old file there filing.new) }
+/// The protection of the file with this ID, if there is one. A directory is not replaced, nor is a file of the system.
+fn protection_of(filing: &mut Filing, file: FileId) -> Result<Option<u16>, Why>
+    ensures ok { IfOk result (λ held. IsThere filing.old file held filing.new) }
     ensures err { IfErr result (IsNotPlain filing.old file filing.new) }
 {
     let _ = filing.disk();
     match filing.request(&Request::Stat { file }) {
         Ok(answer) => match answer {
             Answer::Info(stat) => match stat.kind {
-                Kind::Plain { .. } => Ok(true),
+                Kind::Plain { .. } => Ok(Some(stat.protection)),
                 Kind::Directory { .. } => Err(Why::IsDirectory),
                 Kind::System => Err(Why::Request(Refusal::Reserved)),
             },
             // A Stat is answered by what the file is.
             _ => unreachable!(),
         },
-        Err(Refusal::NoSuchFile) => Ok(false),
+        Err(Refusal::NoSuchFile) => Ok(None),
         Err(refusal) => Err(Why::Request(refusal)),
     }
 }

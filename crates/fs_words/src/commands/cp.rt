@@ -18,7 +18,7 @@ pub(crate) const ROW: Row<'static> = Row {
         Argument::Text(
             "--from",
             "IMAGE2",
-            "Copy files of the volume in IMAGE2, with their dates, attributes, names and versions. The last PATH is a directory of IMAGE",
+            "Copy files of the volume in IMAGE2, with their dates, attributes, protection, names and versions. The last PATH is a directory of IMAGE",
         ),
         Argument::Flag(
             "-r",

@@ -4,7 +4,7 @@ ghost use Rattle.fs_words.specs.{Asked.IsInit, Asked.IsSize, Asked.text_of, Refu
 
 use crate::actions::Action;
 use crate::arguments::{Argument, Row};
-use crate::devices::device_blocks;
+use crate::devices::{device_blocks, device_order};
 use crate::numbers::number_of;
 use crate::said::wrong;
 use crate::verbs::Verb;
@@ -43,12 +43,14 @@ pub(crate) fn action<'a>(alloc: Global, own: &ArgMatches<'a>) -> Result<Action<'
     ensures asked { IfOk result (IsInit own.now) }
     ensures refused { IfErr result (HasReason (IsUnasked Verb.Init own.now)) }
 {
-    let blocks = size_of(alloc, size_in(own))?;
+    let size = size_in(own);
+    let blocks = size_of(alloc, size)?;
     let files = number_of(alloc, own.get_str("--files"))?;
     Ok(Action::Init {
         blocks,
         files,
         label: own.get_str("--label"),
+        order: device_order(size),
     })
 }
 

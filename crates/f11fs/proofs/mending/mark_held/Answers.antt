@@ -9,7 +9,7 @@ returns-clause-leaves c = (
   c.requires,
   elim c.match-mark_used.branch [
     | in-Ok+in_ok-push_used-in-Ok w ↦ inl (w.in-Ok.blocks.items, w.in-Ok.ensures.used)
-    | in-Err+in_ok-tell_left-in-Err w ↦ inr (w.in-Err.ensures.unchanged, (w.in-Err.fault, w.in-Err.ensures.refused))
+    | in-Err+in_ok-tell_left-in-Err w ↦ inr (w.in-Err.ensures.unchanged, (w.in-Err.fault, w.in_ok-tell_left-in-Err.ensures.reported, w.in-Err.ensures.refused))
   ],
 )
 

@@ -10,7 +10,7 @@ use Rattle.f11fs.proofs.mending_shares.unshare_one.Goals as goal
 pub returns-clause-left : goal.returns-clause-left
 returns-clause-left c = elim c.match-unshare.branch [
   | in-Ok+in_ok-tell_shared-in-Ok w ↦ inl (w.in-Ok.told, w.in-Ok.ensures.own)
-  | in-Err+in_ok-tell_left-in-Err w ↦ inr (w.in-Err.ensures.unchanged, (w.in-Err.fault, w.in-Err.ensures.refused))
+  | in-Err+in_ok-tell_left-in-Err w ↦ inr (w.in-Err.ensures.unchanged, (w.in-Err.fault, w.in_ok-tell_left-in-Err.ensures.reported, w.in-Err.ensures.refused))
 ]
 
 pub returns-clause-whole : goal.returns-clause-whole

@@ -1,10 +1,8 @@
 use denote.Enum.Bare.{same_true}
 use Rattle.std.proofs.Common.{rules, ◌≡◌, ◌∙◌, sym, subst, Some, false}
 use Rattle.std.proofs.lemmas.Result.{err_from_is_err_and}
-use Rattle.ods_request.specs.Rights.{permits}
-use Rattle.ods_request.specs.declared.rights.Right.TheVariants.{Read}
 use Rattle.ods_shell.specs.contracts.facts.Kind.{the_type}
-use Rattle.ods_upkeep.specs.Copied.{IsUncopyable, not_there, reserved, directory, denied, nameless, of_directory}
+use Rattle.ods_upkeep.specs.Copied.{IsUncopyable, may_read, not_there, reserved, directory, denied, nameless, of_directory}
 use Rattle.ods_upkeep.proofs.copying.check.Goals as goal
 
 pub returns-in_default-clause-err : goal.returns-in_default-clause-err
@@ -16,16 +14,16 @@ returns-then-facts-le2-clause-err c = reserved c.in-Some.facts (search rules) c.
 pub returns-then-eq-clause-err : goal.returns-then-eq-clause-err
 returns-then-eq-clause-err c = directory c.in-Some.facts (search rules) (same_true the_type (search rules) _ _ (sym c.if-eq.ensures))
 
-pub returns-then-not-permits-clause-err : goal.returns-then-not-permits-clause-err
-returns-then-not-permits-clause-err c =
-    let no : permits c.args.user c.in-Some.facts.owner c.in-Some.facts.protection Read ≡ false = search rules in
+pub returns-then-not-may_read-clause-err : goal.returns-then-not-may_read-clause-err
+returns-then-not-may_read-clause-err c =
+    let no : may_read c.args.reader c.in-Some.facts ≡ false = search rules in
     denied c.in-Some.facts (search rules) no
 
 pub returns-in_err-name-clause-err : goal.returns-in_err-name-clause-err
 returns-in_err-name-clause-err c =
     let known : c.args.found.now.facts ≡ Some c.in-Some.facts = search rules in
     let p = err_from_is_err_and c.from_residual.result c.from_residual.ensures.1 in
-    rw (p.1, p.2) (subst (IsUncopyable c.args.user c.args.target.now c.args.found.now) (sym c.in_err-name.ensures.err.0) (nameless c.in-Some.facts known c.in_err-name.ensures.err.1))
+    rw (p.1, p.2) (subst (IsUncopyable c.args.reader c.args.target.now c.args.found.now) (sym c.in_err-name.ensures.err.0) (nameless c.in-Some.facts known c.in_err-name.ensures.err.1))
 
 pub returns-then-ext-eq-DIRECTORY_TYPE-clause-err :
     goal.returns-then-ext-eq-DIRECTORY_TYPE-clause-err

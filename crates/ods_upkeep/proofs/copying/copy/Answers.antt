@@ -1,4 +1,4 @@
-use Rattle.std.proofs.Common.{refl, subst}
+use Rattle.std.proofs.Common.{refl, subst, Some}
 use Rattle.std.proofs.lemmas.Result.{IfErr-weaker, err_from_is_err_and}
 use Rattle.ods_upkeep.specs.Copied.{IsCopyable}
 use Rattle.ods_upkeep.specs.Uncopied.{IsCopyUnmade, IsNotCopied, unread}
@@ -31,4 +31,4 @@ returns-in_err-bytes-clause-refused c =
     let facts = c.in_ok-facts.facts in
     let name = c.in_ok-facts.name in
     let p = err_from_is_err_and c.from_residual-in_err-bytes.result c.from_residual-in_err-bytes.ensures.1 in
-    rw (p.1, p.2) (unread _ facts name (subst (λ u. IsCopyable u c.args.target.now c.args.found.now facts name) c.user-user.ensures c.in_ok-facts.ensures.ok) c.in_err-bytes.ensures.err refl)
+    rw (p.1, p.2) (unread _ facts name (subst (λ u. IsCopyable (Some u) c.args.target.now c.args.found.now facts name) c.user-user.ensures c.in_ok-facts.ensures.ok) c.in_err-bytes.ensures.err refl)

@@ -32,7 +32,7 @@ returns-clause-refused c =
     let sources : AreSources I L (highest alone.Files) c.args.paths.now all = same_unsaid (λ J M u. AreSources J M u c.args.paths.now all) c.mounted.ensures.0 c.mounted.ensures.1 c.highest.ensures c.in_ok-all.ensures in
     let counted : IsTarget I L c.len.result c.args.to.now to = same_disk (λ J M. IsTarget J M c.len.result c.args.to.now to) c.mounted-2.ensures.0 c.mounted-2.ensures.1 c.in_ok-target.ensures in
     let target : IsTarget I L (length all) c.args.to.now to = subst (λ n. IsTarget I L n c.args.to.now to) (omega (arith, c.len.ensures, c.in_ok-all.all.ok.0)) counted in
-    let may : MayAllBeCopied c.args.filing.now.user to all = subst (λ u. MayAllBeCopied u to all) c.user.ensures (subst (MayAllBeCopied c.user.result to) c.deref.ensures.value c.in_ok-check_all.ensures.ok) in
+    let may : MayAllBeCopied (Some c.args.filing.now.user) to all = subst (λ u. MayAllBeCopied (Some u) to all) c.user.ensures (subst (MayAllBeCopied (Some c.user.result) to) c.deref.ensures.value c.in_ok-check_all.ensures.ok) in
     IfErr-weaker c.copy_all.result (StopsCopying c.args.placing to c.args.stamp c.deref-2.result.now c.args.filing.now new) (IsNotCopiedTo c.args.placing c.args.stamp c.args.paths.now c.args.to.now c.args.filing.now new)
     (λ failure stops. inr (all, sources, inr (to, target, inr (may, subst (λ l. StopsCopying c.args.placing to c.args.stamp l c.args.filing.now new failure) c.deref-2.ensures.value stops)))) c.copy_all.ensures.refused
 
@@ -59,7 +59,7 @@ returns-in_err-check_all-clause-refused c =
     let counted : IsTarget I L c.len.result c.args.to.now to = same_disk (λ J M. IsTarget J M c.len.result c.args.to.now to) c.mounted-2.ensures.0 c.mounted-2.ensures.1 c.in_ok-target.ensures in
     let target : IsTarget I L (length all) c.args.to.now to = subst (λ n. IsTarget I L n c.args.to.now to) (omega (arith, c.len.ensures, c.in_ok-all.all.ok.0)) counted in
     let failure = c.in_err-check_all.field-0.0 in
-    let first : IsFirstUncopyable c.args.filing.now.user to all failure =
-    subst (λ u. IsFirstUncopyable u to all failure) c.user.ensures (subst (λ l. IsFirstUncopyable c.user.result to l failure) c.deref.ensures.value c.in_err-check_all.ensures.err) in
+    let first : IsFirstUncopyable (Some c.args.filing.now.user) to all failure =
+    subst (λ u. IsFirstUncopyable (Some u) to all failure) c.user.ensures (subst (λ l. IsFirstUncopyable (Some c.user.result) to l failure) c.deref.ensures.value c.in_err-check_all.ensures.err) in
     let p = err_from_is_err_and c.from_residual-in_err-check_all.result c.from_residual-in_err-check_all.ensures.1 in
     rw (p.1, p.2) (inr (all, sources, inr (to, target, inl (refl, first))))

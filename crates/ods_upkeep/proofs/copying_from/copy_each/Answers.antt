@@ -1,4 +1,4 @@
-use Rattle.std.proofs.Common.{refl, subst, length, inl, inr}
+use Rattle.std.proofs.Common.{refl, length, inl, inr}
 use Rattle.std.proofs.lemmas.Result.{IfErr-weaker, err_from_is_err_and}
 use Rattle.ods_upkeep.specs.Ready.{MayHaveGrown}
 use Rattle.ods_upkeep.specs.Uncopied.{IsFirstUncopyable, MayAllBeCopied}
@@ -25,14 +25,13 @@ returns-clause-refused c =
     let files = c.args.files.now in
     let to = c.args.target.now in
     let grown : MayHaveGrown (length files) old ready = c.make_ready.ensures in
-    let may : MayAllBeCopied old.user to files = subst (λ u. MayAllBeCopied u to files) c.user.ensures c.in_ok-check_all.ensures.ok in
+    let may : MayAllBeCopied c.args.how.now.reader to files = c.in_ok-check_all.ensures.ok in
     IfErr-weaker c.copy_all_over.result (StopsCopyingOver I L c.args.how.now to c.args.stamp files ready new) (AreNotCopiedOver I L c.args.how.now to c.args.stamp files old new)
     (λ failure stops. inr (may, (ready, grown, stops))) c.copy_all_over.ensures.refused
 
 pub returns-in_err-check_all-clause-refused : goal.returns-in_err-check_all-clause-refused
 returns-in_err-check_all-clause-refused c =
-    let old = c.args.filing.now in
     let failure = c.in_err-check_all.field-0.0 in
-    let first : IsFirstUncopyable old.user c.args.target.now c.args.files.now failure = subst (λ u. IsFirstUncopyable u c.args.target.now c.args.files.now failure) c.user.ensures c.in_err-check_all.ensures.err in
+    let first : IsFirstUncopyable c.args.how.now.reader c.args.target.now c.args.files.now failure = c.in_err-check_all.ensures.err in
     let p = err_from_is_err_and c.from_residual.result c.from_residual.ensures.1 in
     rw (p.1, p.2) (inl (refl, first))
