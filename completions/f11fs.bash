@@ -53,6 +53,7 @@ _f11fs_of() {
     label) options='-o --backup --break-links -n --force --json -q --blocks --order -h --help' takes='' ;;
     repair) options='--into -o --backup --break-links -n --force --stamp -q --blocks --order -h --help' takes='' ;;
     init) options='--files --label -n --json --stamp -u --order -h --help' takes='size' ;;
+    convert) options='--to --blocks-only -q --blocks --order -h --help' takes='host' ;;
     *) options='' takes='' ;;
     esac
 }
@@ -61,7 +62,7 @@ _f11fs_of() {
 _f11fs_value() {
     case $1 in
     -f | --commands | -o | --from) kind=host ;;
-    --stamp | -u | --blocks | --order | --top | --form | --owner | -k | --names | --files | --label) kind=none ;;
+    --stamp | -u | --blocks | --order | --top | --form | --owner | -k | --names | --files | --label | --to) kind=none ;;
     --like | --into) kind=path ;;
     *) return 1 ;;
     esac
@@ -101,7 +102,7 @@ _f11fs() {
     elif [[ -z $image ]]; then
         takes=host
     elif [[ -z $command ]]; then
-        mapfile -t COMPREPLY < <(compgen -W 'ls find stat cat get tar df info du check rescue cmp put untar cp mv rm purge mkdir rmdir truncate append chmod chown label repair init' -- "$cur")
+        mapfile -t COMPREPLY < <(compgen -W 'ls find stat cat get tar df info du check rescue cmp put untar cp mv rm purge mkdir rmdir truncate append chmod chown label repair init convert' -- "$cur")
         return
     fi
     for one in $takes; do

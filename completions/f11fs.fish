@@ -9,7 +9,7 @@ function __f11fs_state
     set -l at 2
     while test $at -le (count $words)
         switch $words[$at]
-            case -f --commands -o --stamp -u --blocks --order --top --form --like --owner --from -k --names --into --files --label
+            case -f --commands -o --stamp -u --blocks --order --top --form --like --owner --from -k --names --into --files --label --to
                 set at (math $at + 1)
                 test $words[(math $at - 1)] = --blocks; and test $at -le (count $words); and set blocks --blocks $words[$at]
             case '-?*'
@@ -95,6 +95,7 @@ complete -c f11fs -n '__f11fs_at command' -a chown -d 'Give files another owner.
 complete -c f11fs -n '__f11fs_at command' -a label -d 'Give the volume another label'
 complete -c f11fs -n '__f11fs_at command' -a repair -d 'Repair an image, also one that f11fs refuses. Work on a copy first'
 complete -c f11fs -n '__f11fs_at command' -a init -d 'Make the image of an empty volume. IMAGE must not exist'
+complete -c f11fs -n '__f11fs_at command' -a convert -d 'Write the volume into another image, as blocks or as a floppy'
 complete -c f11fs -n '__f11fs_at image command' -s f -l commands -r -F -d 'Run the commands in FILE, one a line. - is standard input'
 complete -c f11fs -n '__f11fs_at image command' -s o -r -F -d 'Write the changed image to FILE, and leave IMAGE unchanged. FILE must not exist. For get: write to FILE'
 complete -c f11fs -n '__f11fs_at image command' -l backup -d 'Keep the old image as IMAGE~'
@@ -154,7 +155,7 @@ complete -c f11fs -n '__f11fs_at get' -l raw -d 'Write the bytes of all blocks'
 complete -c f11fs -n '__f11fs_at get' -s p -d 'Give each host file the creation date of its file as its modification time, in the local time zone'
 complete -c f11fs -n '__f11fs_at get' -s r -d 'Copy the files in the one directory PATH and below it, into folders with the names of the directories'
 complete -c f11fs -n '__f11fs_at get' -l deleted -d 'Copy deleted files. Each PATH is an ID that find --deleted shows, such as \'#9,1\''
-complete -c f11fs -n '__f11fs_at get' -l partial -d 'With --deleted: copy what is left of a file that is not whole, with zeros for blocks that are used again or outside the volume'
+complete -c f11fs -n '__f11fs_at get' -l partial -d 'Copy what is left of a file that is not whole, with zeros for blocks outside the image, and with --deleted for blocks that are used again'
 complete -c f11fs -n '__f11fs_at get' -s o -r -F -d 'Write to this host file or folder. - is standard output'
 complete -c f11fs -n '__f11fs_at get' -s n -d 'Write nothing. Print what the command would do'
 complete -c f11fs -n '__f11fs_at get' -l force -d 'Replace host files that exist'
@@ -413,3 +414,10 @@ complete -c f11fs -n '__f11fs_at init' -l stamp -x -d 'Give new files this time,
 complete -c f11fs -n '__f11fs_at init' -s u -x -d 'Make this user the owner of the volume, such as [1,2]. Default: [1,1]'
 complete -c f11fs -n '__f11fs_at init' -l order -x -d 'Write the sectors of the image in this order: plain, rx01, rx02 or rx50. Default: that of RX01 or RX02, otherwise plain'
 complete -c f11fs -n '__f11fs_at init' -s h -l help -d 'Print help'
+complete -c f11fs -n '__f11fs_at convert' -F
+complete -c f11fs -n '__f11fs_at convert' -l to -x -d 'The order of the sectors in OUT: plain, rx01, rx02 or rx50. Default: plain'
+complete -c f11fs -n '__f11fs_at convert' -l blocks-only -d 'Leave out the bytes after the volume, and the first track of a floppy. Default: an image with such a track is refused'
+complete -c f11fs -n '__f11fs_at convert' -s q -d 'Hide progress and remarks, but not errors'
+complete -c f11fs -n '__f11fs_at convert' -l blocks -x -d 'Assume that the volume has N blocks, 1 to 1048576, whatever size the image states'
+complete -c f11fs -n '__f11fs_at convert' -l order -x -d 'Read and write the sectors of the image in this order: plain, rx01, rx02 or rx50. Default: f11fs finds it'
+complete -c f11fs -n '__f11fs_at convert' -s h -l help -d 'Print help'

@@ -1,5 +1,6 @@
 """Floppies in physical order: what is read of them, and which bytes change. The order is a second table here: a track is gone round in steps of two
 sectors, and over a sector that is taken."""
+import re
 import struct
 from collections.abc import Callable, Iterator
 
@@ -144,6 +145,28 @@ def init_makes_one(room: Disk, order: str) -> None:
         room.assertEqual((room.folder / made).read_bytes(), content, f"init {words}")
 
 
+def converts(room: Disk, order: str) -> None:
+    """The volume comes out as blocks and goes back into a floppy. A first track that is not empty is left out only where that is said."""
+    has_track, plain = not ORDERS[order][4], volume(order)
+    line = re.compile(rb"f11fs: disk: its first track is not empty[^\n]*--blocks-only[^\n]*\n")
+    if has_track:
+        room.refuses(5, line, "disk", "convert", "blocks")
+    room.does("disk", "convert", *["--blocks-only"] * has_track, "blocks")
+    room.assertEqual((room.folder / "blocks").read_bytes(), plain, "the blocks")
+    room.refuses(3, re.compile(rb"f11fs: blocks: [^\n]+\n"), "disk", "convert", "--blocks-only", "blocks")
+    room.does("--order", "plain", "blocks", "convert", "--to", order, "back")
+    size, tracks, count, _, _ = ORDERS[order]
+    room.assertEqual((room.folder / "back").read_bytes(), floppy(order, plain, bytes(size * tracks * count)), "the floppy")
+    room.does("--order", order, "back", "convert", "--to", "plain", "again")
+    room.assertEqual((room.folder / "again").read_bytes(), plain, "the blocks of the floppy")
+    (room.folder / "long").write_bytes(plain + b"footer")
+    room.does("--blocks", str(blocks_of(order)), "--order", "plain", "long", "convert", "more")
+    room.assertEqual((room.folder / "more").read_bytes(), plain + b"footer", "what stands behind the volume")
+    room.refuses(3, re.compile(rb"f11fs: other: [^\n]+\n"), "--blocks", str(blocks_of(order)), "--order", "plain", "long", "convert", "--to", order, "other")
+    room.does("--blocks", str(blocks_of(order)), "--order", "plain", "long", "convert", "--to", order, "--blocks-only", "other")
+    assert room.is_untouched(), "convert changed the image"
+
+
 class Orders(Disk):
     @on(lambda: volume("rx50"))
     def test_an_rx50_of_plain_blocks_stays_plain(self) -> None:
@@ -167,4 +190,5 @@ class Orders(Disk):
 for_each(Orders, "is_read_as_the_plain_image", ORDERS, reads_as_plain, on_floppy)
 for_each(Orders, "is_changed_in_its_places", ORDERS, changes_in_place, on_floppy)
 for_each(Orders, "is_refused_in_another_order", ORDERS, other_orders, on_floppy)
+for_each(Orders, "is_converted", ORDERS, converts, on_floppy)
 for_each(Orders, "is_made_by_init", ORDERS, init_makes_one, lambda order: lambda: None)

@@ -34,6 +34,7 @@ IDLE = {
     "chown": "--keep-going --stamp",
     "label": "--keep-going --stamp -u",
     "repair": "--keep-going --json -u",
+    "convert": "-o --backup --break-links -n --force --stamp --keep-going --json -u",
 }
 
 VALUES = {"-o": ["x.out"], "--stamp": [STAMP], "-u": ["1,2"]}

@@ -10,9 +10,9 @@ use Rattle.ods_upkeep.specs.declared.asked.PutForm.{PutForm}
 use Rattle.ods_upkeep.specs.Begun.{AreNames, IsBegun}
 use Rattle.ods_upkeep.specs.HostPut.{IsHostPut}
 use Rattle.ods_upkeep.specs.Left.{InPut, at_time}
+use Rattle.ods_upkeep.specs.Ready.{MayHaveGrown}
 use Rattle.f11fs.specs.Changed.{ArePut, ArePutNext, IsOnePut, hosts_among, path_among}
 use Rattle.f11fs.specs.Dated.{IsHostTime, takes_times}
-use Rattle.f11fs.specs.Ready.{MayBeReady}
 use Rattle.f11fs.specs.Forms.{form_said, placing_said}
 use Rattle.f11fs.specs.Readings.{IsLastPart}
 
@@ -37,13 +37,6 @@ put_next dated run p q s r stamp hosts i host bytes old mid new set time one low
     next : (n : ℕ) → n + 1 ≡ suc n
     next n = omega arith
 
--- the headers for all may be asked for, where none is replaced
-made_ready : (I : _) (L : _) (replace : Bool) (names : Option (List ℕ)) (count : ℕ) (old new : Filed) → AreNames I L replace names
-    → (new ≡ old) ⊎ HasGrown old (lacking old (min count 65535)) new → (is_some names ≡ true → new ≡ old) → MayBeReady replace count old new
-made_ready I L true names count old new counted either same = inl (same (subst (λ (o : Option (List ℕ)). is_some o ≡ true) (sym counted.1) refl))
-made_ready I L false names count old new counted (inl is) same = inl is
-made_ready I L false names count old new counted (inr grown) same = inr (refl, grown)
-
 -- none is left to be put
 pub put_whole : (dated : Bool) (run : List ℕ) (p q : InPut) (hosts : List (Bor (List ℕ))) (i : ℕ) (old new : Filed) → i ≡ length hosts → ArePutNext dated run p (take i hosts) old q new → ArePutNext dated run p hosts old q new
 put_whole dated run p q hosts i old new end put =
@@ -53,10 +46,10 @@ put_whole dated run p q hosts i old new end put =
 pub put_all : {A E : Type 0} (said dated : Bool) (how : PutWords) (words hosts : List (Bor (List ℕ))) (to : Option (Bor (List ℕ))) (form : PutForm) (placing : Option Placing) (stamp : List ℕ) (p q : InPut) (old ready new : Filed) (r : Result A E)
     → IsBegun old.image old.layout stamp to (nat_lt 1 (length hosts)) form how.like placing how.replace how.owner p
     → dated ≡ takes_times how said → to ≡ path_among words → hosts ≡ hosts_among words → form ≡ form_said how → placing ≡ placing_said how
-    → (ready ≡ old) ⊎ HasGrown old (lacking old (min (length hosts) 65535)) ready → (is_some p.names ≡ true → ready ≡ old)
+    → MayHaveGrown (length hosts) old ready
     → OnOk r (ArePutNext dated stamp p hosts ready q new) → OnOk r (ArePut said how words stamp old new)
-put_all said dated how words hosts to form placing stamp p q old ready new (Err e) begun times goes are formed places either same all = tt
-put_all said dated how words hosts to form placing stamp p q old ready new (Ok a) begun times goes are formed places either same all = record {
+put_all said dated how words hosts to form placing stamp p q old ready new (Err e) begun times goes are formed places grown all = tt
+put_all said dated how words hosts to form placing stamp p q old ready new (Ok a) begun times goes are formed places grown all = record {
   begun = p;
   begins =
       subst (λ (g : Option Placing). IsBegun old.image old.layout stamp (path_among words) (nat_lt 1 (length (hosts_among words))) (form_said how) how.like g how.replace how.owner p) places
@@ -64,8 +57,7 @@ put_all said dated how words hosts to form placing stamp p q old ready new (Ok a
       (subst (λ (hs : List (Bor (List ℕ))). IsBegun old.image old.layout stamp to (nat_lt 1 (length hs)) (form_said how) how.like placing how.replace how.owner p) are
       (subst (λ (f : PutForm). IsBegun old.image old.layout stamp to (nat_lt 1 (length hosts)) f how.like placing how.replace how.owner p) formed begun)));
   ready = ready;
-  made_ready = subst (λ (hs : List (Bor (List ℕ))). MayBeReady how.replace (length hs) old ready) are
-      (made_ready old.image old.layout how.replace p.names (length hosts) old ready begun.named either same);
+  made_ready = subst (λ (hs : List (Bor (List ℕ))). MayHaveGrown (length hs) old ready) are grown;
   known = q;
   put = subst (λ (b : Bool). ArePutNext b stamp p (hosts_among words) ready q new) times
       (subst (λ (hs : List (Bor (List ℕ))). ArePutNext dated stamp p hs ready q new) are all);

@@ -32,12 +32,12 @@ use Rattle.ods_upkeep.specs.Purged.{IsPurged}
 use Rattle.ods_upkeep.specs.Removed.{IsRemoved}
 use Rattle.ods_upkeep.specs.HostPut.{IsHostPut}
 use Rattle.ods_upkeep.specs.Left.{InPut, at_time}
+use Rattle.ods_upkeep.specs.Ready.{MayHaveGrown}
 use Rattle.ods_upkeep.specs.declared.asked.Placing.{Placing}
 use Rattle.ods_shell.specs.declared.facts.Facts.{Facts}
 use Rattle.f11fs.specs.CopiedOver.{CopiesBelow}
 use Rattle.f11fs.specs.Dated.{IsHostTime, takes_times}
 use Rattle.f11fs.specs.Forms.{form_said, placing_for, placing_said}
-use Rattle.f11fs.specs.Ready.{MayBeReady}
 use Rattle.f11fs.specs.TreePut.{IsTreePut}
 use Rattle.f11fs.specs.Unpacked.{AreUntarred}
 use Rattle.f11fs.specs.Readings.{IsLastPart}
@@ -75,7 +75,7 @@ pub record ArePut (said : Bool) (how : PutWords) (words : List (Bor (List ℕ)))
   pub begun : InPut
   pub begins : IsBegun old.image old.layout stamp (path_among words) (nat_lt 1 (length (hosts_among words))) (form_said how) how.like (placing_said how) how.replace how.owner begun
   pub ready : Filed
-  pub made_ready : MayBeReady how.replace (length (hosts_among words)) old ready
+  pub made_ready : MayHaveGrown (length (hosts_among words)) old ready
   pub known : InPut
   pub put : ArePutNext (takes_times how said) stamp begun (hosts_among words) ready known new
 
@@ -83,6 +83,10 @@ pub record ArePut (said : Bool) (how : PutWords) (words : List (Bor (List ℕ)))
 abbrev pub PutsBelow : Bool → Bool → PutWords → List (Bor (List ℕ)) → List ℕ → Filed → Filed → Type 0
 PutsBelow true said how words stamp old new = IsTreePut said how words stamp old new
 PutsBelow false said how words stamp old new = ArePut said how words stamp old new
+
+-- directories are made as mkdir does, after INDEXF.SYS may have grown for them
+abbrev pub MakesAll : Option Uic → ℕ → List ℕ → List (Bor (List ℕ)) → Filed → Filed → Type 0
+MakesAll owner names stamp words old new = (ready : Filed) × MayHaveGrown (length words) old ready × AreMade owner names stamp words ready new
 
 -- the names of these words have moved to the last one
 abbrev pub MovesToLast : List (Bor (List ℕ)) → Filed → Filed → Type 0
@@ -121,7 +125,7 @@ IsChanged (change.Cp contiguous) words stamp old new = CopiesToLast (placing_for
 IsChanged change.Mv words stamp old new = MovesToLast words old new
 IsChanged (change.Rm entry_alone newest) words stamp old new = IsRemoved entry_alone newest words old new
 IsChanged (change.Purge keep) words stamp old new = IsPurged keep words old new
-IsChanged (change.Mkdir names owner) words stamp old new = AreMade owner (unwrap_or names 0) stamp words old new
+IsChanged (change.Mkdir names owner) words stamp old new = MakesAll owner (unwrap_or names 0) stamp words old new
 IsChanged change.Rmdir words stamp old new = AreEmptied words old new
 IsChanged (change.Truncate bytes) words stamp old new = CutsFirst words bytes old new
 IsChanged change.Append words stamp old new = AppendsToFirst words old new

@@ -8,7 +8,6 @@ pub mod Mended
 pub mod Orders
 pub mod Plans
 pub mod Readings
-pub mod Ready
 pub mod Saved
 pub mod Seen
 pub mod Unpacked

@@ -24,6 +24,7 @@ is_for_mounted (action.Rescue text scan partial) = false
 is_for_mounted (action.Cmp all) = false
 is_for_mounted (action.Repair kinds into) = false
 is_for_mounted (action.Init blocks files label order) = false
+is_for_mounted (action.Convert order alone) = false
 is_for_mounted (action.Commands file keep_going) = false
 
 abbrev pub IsForMounted : Action → Type 0

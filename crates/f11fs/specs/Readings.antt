@@ -69,6 +69,7 @@ reads_commands (action.Cmp all) = false
 reads_commands (action.Change change) = false
 reads_commands (action.Repair kinds into) = false
 reads_commands (action.Init blocks files label order) = false
+reads_commands (action.Convert order alone) = false
 
 -- an untar without words reads standard input
 abbrev pub untars_input : Action → List (Bor (List ℕ)) → Bool

@@ -20,4 +20,5 @@ prints_names (action.Cmp all) = false
 prints_names (action.Change change) = false
 prints_names (action.Repair kinds into) = false
 prints_names (action.Init blocks files label order) = false
+prints_names (action.Convert order alone) = false
 prints_names (action.Commands file keep_going) = false

@@ -6,7 +6,7 @@ ghost use Rattle.ods_upkeep.specs.Pieces.{HasStatus};
 ghost use Rattle.fs_reads.specs.{Ends.StopsWith, Volumes.LacksBlocks};
 ghost use Rattle.fs_reads.specs.declared.stop.Stop.{Stop as End};
 ghost use Rattle.fs_reads.specs.declared.stop.WordFault.{WordFault as AWordFault};
-ghost use Rattle.f11fs.specs.{Changed.IsChanged, Changed.IsLabelled, Changed.IsNoLabel, Changed.IsRefusal, Changed.KeepsTo, Saved.EndsSaved, Saved.IsNotLocked, Saved.IsNotSaved, Saved.IsSavedStatus, Saved.IsWrittenTo};
+ghost use Rattle.f11fs.specs.{Changed.IsChanged, Changed.IsLabelled, Changed.IsNoLabel, Changed.IsRefusal, Changed.KeepsTo, Changed.MakesAll, Saved.EndsSaved, Saved.IsNotLocked, Saved.IsNotSaved, Saved.IsSavedStatus, Saved.IsWrittenTo};
 
 use crate::appending::append;
 use crate::copying_from::copy_from_image;
@@ -32,7 +32,7 @@ use ods_request::Stamp;
 use ods_shell::Status;
 use ods_upkeep::{
     Failure, Removal, copy_files, give_owner, give_protection, is_below_another, make_directories,
-    move_names, purge_files, remove_directories, remove_files,
+    make_ready, move_names, purge_files, remove_directories, remove_files,
 };
 use std::alloc::{AllocError, Global};
 
@@ -320,13 +320,9 @@ pub fn change_volume<'a, R: Host>(
         }
         Change::Purge { keep } => end_change(alloc, purge_files(alloc, filing, paths, keep)),
         Change::Mkdir { names, owner } => {
-            match make_directories(alloc, filing, stamp, paths, names.unwrap_or(0), owner) {
-                Ok(()) => {
-                    say_nested(rt, words);
-                    Ok(())
-                }
-                Err(failure) => Err(stop_failed(alloc, &failure)),
-            }
+            make_all(alloc, filing, stamp, paths, names.unwrap_or(0), owner)?;
+            say_nested(rt, words);
+            Ok(())
         }
         Change::Rmdir => end_change(alloc, remove_directories(alloc, filing, paths)),
         Change::Truncate { bytes } => truncate(rt, filing, words, bytes),
@@ -336,6 +332,25 @@ pub fn change_volume<'a, R: Host>(
         }
         Change::Chown { owner } => end_change(alloc, give_owner(alloc, filing, paths, owner)),
         Change::Label { text } => label_volume(filing, text),
+    }
+}
+
+/// Makes the directories of `mkdir`, and before them the headers that they lack.
+fn make_all<'a>(
+    alloc: Global,
+    filing: &mut Filing,
+    stamp: Stamp,
+    paths: &[&str],
+    names: u32,
+    owner: Option<Uic>,
+) -> Result<(), Stop<'a>>
+    ensures done { OnOk result (MakesAll owner names stamp paths.now filing.old filing.new) }
+    ensures refused { IfErr result IsRefusal }
+{
+    make_ready(filing, paths.len());
+    match make_directories(alloc, filing, stamp, paths, names, owner) {
+        Ok(()) => Ok(()),
+        Err(failure) => Err(stop_failed(alloc, &failure)),
     }
 }
 

@@ -387,6 +387,7 @@ fn obey_action<R: Host>(
         Action::Df => (say_end(rt, show_space(rt, filing.mounted(), own)), true),
         Action::Commands { .. }
         | Action::Init { .. }
+        | Action::Convert { .. }
         | Action::Rescue { .. }
         | Action::Repair { .. } => (say_wrong(rt, NO_COMMAND), true),
         _ => {

@@ -4,6 +4,7 @@ ghost use Rattle.f11fs.specs.Seen.{prints_names};
 
 use crate::changing::change_image;
 use crate::command_files::obey_file;
+use crate::converting::convert_image;
 use crate::host::Host;
 use crate::making::init_image;
 use crate::orders::layers_of;
@@ -67,6 +68,7 @@ fn obey_action<'a, R: Host>(
             label,
             order,
         } => init_image(rt, words, blocks, files, label, order),
+        Action::Convert { order, alone } => convert_image(rt, words, order, alone),
         Action::Commands { file, keep_going } => obey_file(rt, words, file, keep_going),
         _ => read_volume(rt, words, progress),
     }

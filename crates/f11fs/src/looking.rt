@@ -121,6 +121,7 @@ fn look_words<R: Host>(rt: &R, volume: &Readable, outer: &Words<'_>, own: Words<
         }
         Action::Commands { .. }
         | Action::Init { .. }
+        | Action::Convert { .. }
         | Action::Rescue { .. }
         | Action::Repair { .. }
         | Action::Change(_)

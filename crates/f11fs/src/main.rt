@@ -9,6 +9,7 @@ mod appending;
 mod changing;
 mod command_files;
 mod commands;
+mod converting;
 mod copying_from;
 mod dating;
 mod early;

@@ -97,7 +97,7 @@ fn write_image<'a, R: Host>(
         };
         return send(rt, text.as_str());
     }
-    match write_ordered(rt, path, image, order) {
+    match write_ordered(rt, path, image, &[], order) {
         Ok(wanting) => Ok(say_unfinished(rt, path, wanting)),
         Err(fault) => Err(Stop::Word(path, WordFault::Unsaved(fault))),
     }

@@ -102,25 +102,26 @@ pub fn write_floppy<R: Files<File = File> + AllocGlobal>(
     }
 }
 
-/// Writes a new volume to a file that does not exist before, in the same way as [`write_new`]. The file has the blocks in their order, or is a
-/// floppy of this order whose other bytes are zeros.
+/// Writes a volume, and the bytes after it, to a file that does not exist before, in the same way as [`write_new`]. The file has the blocks in their
+/// order, or is a floppy of this order whose other bytes are zeros.
 #[tactic(auto, using(crate::proofs::Storing::errs_copying))]
 pub fn write_ordered<R: Files<File = File> + AllocGlobal>(
     rt: &R,
     path: &str,
     image: &Image,
+    behind: &[u8],
     order: Option<Order>,
 ) -> Result<Option<Unfinished>, SaveFault>
     ensures ok { IfOk result (λ wanting. IfSome wanting (λ unfinished. IsTrue (may_be_wanting unfinished))) }
     ensures err { IfErr result (λ fault. IsTrue (may_end_copying (is_some order) fault)) }
 {
     let Some(order) = order else {
-        return write_new(rt, path, image, &[], None);
+        return write_new(rt, path, image, behind, None);
     };
     let Ok(mut floppy) = Floppy::empty(rt.alloc(), order) else {
         return Err(SaveFault::Make(HostFault::NoMemory));
     };
-    if floppy.lay(image, &[]) {
+    if floppy.lay(image, behind) {
         write_floppy(rt, path, &floppy, None)
     } else {
         Err(SaveFault::Unfit)

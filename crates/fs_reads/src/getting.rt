@@ -15,6 +15,7 @@ ghost use Rattle.ods_space.specs.Files.{FindsFiles};
 ghost use Rattle.ods_space.specs.Disks.{on};
 
 use crate::closed::closed_to;
+use crate::getting_part::get_part;
 use crate::host_files::{Written, could_write, write_host};
 use crate::printing::{Reader, add_named, cat_file, say_remark, say_unread};
 use crate::progress::Progress;
@@ -54,6 +55,8 @@ pub(crate) struct How<'a> {
     pub with_versions: bool,
     /// Whether existing host files may be replaced.
     pub force: bool,
+    /// Whether what is left of a file is written if its chain is not whole.
+    pub partial: bool,
     /// Whether the command only prints what it would write.
     pub only_tells: bool,
     pub json: bool,
@@ -63,13 +66,15 @@ pub(crate) struct How<'a> {
 }
 
 /// `get`: extracts the files that the paths select. Without `said`, the last of two or more words is the destination. With a zone, each host file
-/// receives the creation date of its file as its modification time.
+/// receives the creation date of its file as its modification time. With `partial` what is left of a file is written if its chain is not whole; the
+/// file still counts as refused.
 pub(crate) fn get<'a, R: Files<File = File> + Clock + AllocGlobal + Print + Eprint>(
     rt: &R,
     disk: &Disk<'_>,
     words: &Words<'a>,
     said: Option<&'a str>,
     wanted: Wanted,
+    partial: bool,
     zone: Option<&HostZone>,
     progress: &mut Progress,
 ) -> Result<Status, Stop<'a>>
@@ -88,6 +93,7 @@ pub(crate) fn get<'a, R: Files<File = File> + Clock + AllocGlobal + Print + Epri
         wanted,
         with_versions: say_all_versions(paths),
         force: words.force,
+        partial,
         only_tells: words.saving.only_tells,
         json: words.json,
         reader: Reader::of(words),
@@ -252,8 +258,28 @@ pub(crate) fn get_each<'a, R: Files<File = File> + Clock + AllocGlobal + Print +
     Ok(status)
 }
 
-/// Gets one file to its destination.
+/// Gets one file to its destination. Of a file that is refused, what is left is written if that is requested.
 fn get_one<'a, R: Files<File = File> + AllocGlobal + Print + Eprint>(
+    rt: &R,
+    disk: &Disk<'_>,
+    found: &Found,
+    to: Destination<'_>,
+    how: How<'_>,
+    versions: &Versioned,
+    written: &mut BTreeSet<String>,
+) -> Result<Status, Stop<'a>>
+    requires { on FindsFiles disk.now }
+    ensures { IfOk result (EndsGet how.entry.reader.user (λ n. on IsGot disk.now n how.entry.wanted) (λ n. on IsNotGot disk.now n how.entry.wanted) found.now) }
+{
+    let done = get_whole(rt, disk, found, to, how, versions, written)?;
+    if how.partial && done == Status::Refused {
+        get_part(rt, disk, found, to, how, versions, written)?;
+    }
+    Ok(done)
+}
+
+/// Gets one file to its destination, if it is whole.
+fn get_whole<'a, R: Files<File = File> + AllocGlobal + Print + Eprint>(
     rt: &R,
     disk: &Disk<'_>,
     found: &Found,

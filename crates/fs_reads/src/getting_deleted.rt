@@ -62,6 +62,7 @@ pub(crate) fn get_deleted<'a, R: Files<File = File> + Clock + AllocGlobal + Prin
         wanted,
         with_versions: false,
         force: words.force,
+        partial: false,
         only_tells: words.saving.only_tells,
         json: words.json,
         reader: Reader::of(words),

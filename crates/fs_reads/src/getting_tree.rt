@@ -69,6 +69,7 @@ pub(crate) fn get_tree<'a, R: Files<File = File> + Clock + AllocGlobal + Print +
         wanted,
         with_versions: false,
         force: words.force,
+        partial: false,
         only_tells: words.saving.only_tells,
         json: words.json,
         reader: Reader::of(words),

@@ -11,6 +11,7 @@ mod file_paths;
 mod finding;
 mod getting;
 mod getting_deleted;
+mod getting_part;
 mod getting_tree;
 mod host_files;
 mod informing;
@@ -47,4 +48,6 @@ pub use progress::Progress;
 pub use readable::{Readable, open_readable};
 pub use rescuing::rescue;
 pub use stop::{Stop, WordFault, say_end, send, stop_about, stop_at_own_output};
-pub use volume::{VolumeFault, image_of, lacks_blocks, open_volume, say_extent, volume_of};
+pub use volume::{
+    VolumeFault, image_of, lacks_blocks, open_volume, say_extent, stop_unread, volume_of,
+};

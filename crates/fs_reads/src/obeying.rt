@@ -44,7 +44,7 @@ pub fn obey<'a, R: Files<File = File> + Clock + Env + AllocGlobal + Print + Epri
             target,
             below,
             deleted: false,
-            partial: _,
+            partial,
             dated,
         } => {
             let zone = HostZone::read_where(rt, dated);
@@ -52,7 +52,7 @@ pub fn obey<'a, R: Files<File = File> + Clock + Env + AllocGlobal + Print + Epri
             if below {
                 get_tree(rt, disk, words, target, wanted, zone, progress)
             } else {
-                get(rt, disk, words, target, wanted, zone, progress)
+                get(rt, disk, words, target, wanted, partial, zone, progress)
             }
         }
         Action::Get {
@@ -124,6 +124,7 @@ fn push_shown<'a>(
         | Action::Repair { .. }
         | Action::Change(_)
         | Action::Init { .. }
+        | Action::Convert { .. }
         | Action::Commands { .. } => Ok(()),
     }
 }

@@ -289,8 +289,19 @@ pub fn image_of<'a, R: Files<File = File> + AllocGlobal>(
 {
     match image {
         Ok(image) => Ok(image),
-        Err(fault) => Err(no_volume(path, not_read_in(rt, path, fault, HostFault::Unknown))),
+        Err(fault) => Err(stop_unread(rt, path, fault)),
     }
+}
+
+/// Returns the end of a command that cannot read the image at this path.
+pub fn stop_unread<'a, R: Files<File = File> + AllocGlobal>(
+    rt: &R,
+    path: &'a str,
+    fault: ReadFault,
+) -> Stop<'a>
+    ensures { (fault : Fault) × IsNoVolume path.entry fault result }
+{
+    no_volume(path, not_read_in(rt, path, fault, HostFault::Unknown))
 }
 
 /// The volume of an image.

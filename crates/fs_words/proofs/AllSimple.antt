@@ -30,6 +30,7 @@ whole_simple verb.Info = refl
 whole_simple verb.Du = refl
 whole_simple verb.Check = refl
 whole_simple verb.Rescue = refl
+whole_simple verb.Convert = refl
 whole_simple verb.Cmp = refl
 whole_simple verb.Put = refl
 whole_simple verb.Cp = refl

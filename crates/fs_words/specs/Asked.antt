@@ -14,9 +14,11 @@ use Rattle.fs_words.specs.declared.actions.Change.TheVariants as change
 use Rattle.fs_words.specs.declared.actions.FromWords.{FromWords}
 use Rattle.fs_words.specs.declared.actions.PutWords.{PutWords}
 use Rattle.fs_words.specs.declared.actions.Repairs.{Repairs}
+use Rattle.fs_words.specs.declared.layering.Layering.{Layering}
 use Rattle.fs_words.specs.declared.verbs.Verb.{Verb}
 use Rattle.fs_words.specs.declared.verbs.Verb.TheVariants as verb
 use Rattle.fs_words.specs.Devices.{device_order, device_size}
+use Rattle.fs_words.specs.Layerings.{IsLayering}
 use Rattle.fs_words.specs.Protections.{IsProtection}
 use Rattle.fs_words.specs.RepairWords.{AreKinds}
 use Rattle.fs_words.specs.Users.{IsSaid}
@@ -54,10 +56,10 @@ IsWanted m ByKind = IsSet m (codes "-t") false × IsSet m (codes "-b") false × 
 abbrev pub IsCat : ArgMatches → Action → Type 0
 IsCat m a = (wanted : Wanted) × IsWanted m wanted × (a ≡ action.Cat wanted)
 
--- --partial has no effect without --deleted, and -r none with it
+-- -r has no effect with --deleted, and --partial none with -r
 abbrev pub IsGet : ArgMatches → Option (Bor (List ℕ)) → Action → Type 0
 IsGet m out a = (wanted : Wanted) × (below deleted partial dated : Bool) × IsWanted m wanted × IsSet m (codes "-r") below × IsSet m (codes "--deleted") deleted
-    × IsSet m (codes "--partial") partial × IsSet m (codes "-p") dated × (partial ≡ true → deleted ≡ true) × (below ≡ true → deleted ≡ false)
+    × IsSet m (codes "--partial") partial × IsSet m (codes "-p") dated × (partial ≡ true → below ≡ false) × (below ≡ true → deleted ≡ false)
     × (a ≡ action.Get wanted out below deleted partial dated)
 
 abbrev pub IsTar : ArgMatches → Action → Type 0
@@ -152,6 +154,10 @@ IsRepair m a = (kinds : Repairs) × (into : Option (Bor (List ℕ))) × AreKinds
 abbrev pub IsSize : List ℕ → ℕ → Type 0
 IsSize text blocks = MatchOption (device_size text) (IsNumber text blocks) (λ size. blocks ≡ size)
 
+-- the order of the sectors, if one is given, and whether only the blocks of the volume are written
+abbrev pub IsConvert : ArgMatches → Action → Type 0
+IsConvert m a = (order : Option Layering) × (alone : Bool) × IsValue IsLayering (text_of m (codes "--to")) order × IsSet m (codes "--blocks-only") alone × (a ≡ action.Convert order alone)
+
 abbrev pub IsInit : ArgMatches → Action → Type 0
 IsInit m a = (blocks : ℕ) × (files : Option ℕ) × (label : Option (Bor (List ℕ))) × IsSize (unwrap_or (text_of m (codes "size")) []) blocks × IsValue IsNumber (text_of m (codes "--files")) files
     × (value_of label ≡ text_of m (codes "--label")) × (a ≡ action.Init blocks files label (device_order (unwrap_or (text_of m (codes "size")) [])))
@@ -185,4 +191,5 @@ Asks verb.Chown m out a = IsChown m a
 Asks verb.Label m out a = IsLabel m a
 Asks verb.Repair m out a = IsRepair m a
 Asks verb.Init m out a = IsInit m a
+Asks verb.Convert m out a = IsConvert m a
 Asks verb.File m out a = ⊥

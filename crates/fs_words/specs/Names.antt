@@ -33,11 +33,12 @@ verb_text verb.Label = codes "label"
 verb_text verb.Untar = codes "untar"
 verb_text verb.Repair = codes "repair"
 verb_text verb.Init = codes "init"
+verb_text verb.Convert = codes "convert"
 verb_text verb.File = codes "-f"
 
 -- the commands, in the order of the help
 abbrev pub verbs : List Verb
-verbs = verb.Ls ∷ verb.Find ∷ verb.Stat ∷ verb.Cat ∷ verb.Get ∷ verb.Tar ∷ verb.Df ∷ verb.Info ∷ verb.Du ∷ verb.Check ∷ verb.Rescue ∷ verb.Cmp ∷ verb.Put ∷ verb.Untar ∷ verb.Cp ∷ verb.Mv ∷ verb.Rm ∷ verb.Purge ∷ verb.Mkdir ∷ verb.Rmdir ∷ verb.Truncate ∷ verb.Append ∷ verb.Chmod ∷ verb.Chown ∷ verb.Label ∷ verb.Repair ∷ verb.Init ∷ []
+verbs = verb.Ls ∷ verb.Find ∷ verb.Stat ∷ verb.Cat ∷ verb.Get ∷ verb.Tar ∷ verb.Df ∷ verb.Info ∷ verb.Du ∷ verb.Check ∷ verb.Rescue ∷ verb.Cmp ∷ verb.Put ∷ verb.Untar ∷ verb.Cp ∷ verb.Mv ∷ verb.Rm ∷ verb.Purge ∷ verb.Mkdir ∷ verb.Rmdir ∷ verb.Truncate ∷ verb.Append ∷ verb.Chmod ∷ verb.Chown ∷ verb.Label ∷ verb.Repair ∷ verb.Init ∷ verb.Convert ∷ []
 
 -- the command of this name
 abbrev pub verb_named : List ℕ → Option Verb

@@ -55,6 +55,7 @@ abbrev pub prints_lines : Verb → Bool
 prints_lines verb.Cat = false
 prints_lines verb.Tar = false
 prints_lines verb.Repair = false
+prints_lines verb.Convert = false
 prints_lines v = true
 
 -- the commands that check rights, or create something for a user
@@ -66,6 +67,7 @@ asks_rights verb.Check = false
 asks_rights verb.Rescue = false
 asks_rights verb.Label = false
 asks_rights verb.Repair = false
+asks_rights verb.Convert = false
 asks_rights v = true
 
 -- the commands that read an existing volume

@@ -74,7 +74,7 @@ IsIdleForPut m = (IsSet m (codes "--skip") true × IsSet m (codes "-r") false) �
 -- What is wrong with the own words of each command, of which a parse found these.
 abbrev pub IsUnasked : Verb → ArgMatches → Type 0
 IsUnasked verb.Find m = IsSet m (codes "-l") true × IsSet m (codes "--deleted") false
-IsUnasked verb.Get m = (IsSet m (codes "--partial") true × IsSet m (codes "--deleted") false) ⊎ (IsSet m (codes "-r") true × IsSet m (codes "--deleted") true)
+IsUnasked verb.Get m = (IsSet m (codes "--partial") true × IsSet m (codes "-r") true) ⊎ (IsSet m (codes "-r") true × IsSet m (codes "--deleted") true)
 IsUnasked verb.Du m = IsNoValue IsNumber (text_of m (codes "--top"))
 IsUnasked verb.Put m = IsNoValue IsForm (text_of m (codes "--form")) ⊎ (IsNoValue IsSaid (text_of m (codes "--owner")) ⊎ IsIdleForPut m)
 IsUnasked verb.Mkdir m = IsNoValue IsNumber (text_of m (codes "--names")) ⊎ IsNoValue IsSaid (text_of m (codes "--owner"))
@@ -90,6 +90,7 @@ IsUnasked verb.Cp m = (text_of m (codes "--from") ≡ None) × (IsSet m (codes "
 -- a word names no repair, or a directory is given without lost files
 IsUnasked verb.Repair m = HasUnknown (texts_of m (codes "path")) ⊎ ((is_some (text_of m (codes "--into")) ≡ true) × (is_asked_for (codes "lost") (texts_of m (codes "path")) ≡ false))
 IsUnasked verb.Init m = SpellsNone IsSize (unwrap_or (text_of m (codes "size")) []) ⊎ IsNoValue IsNumber (text_of m (codes "--files"))
+IsUnasked verb.Convert m = IsNoValue IsLayering (text_of m (codes "--to"))
 IsUnasked verb.File m = Unit {0}
 IsUnasked v m = ⊥
 

@@ -150,6 +150,7 @@ own_rules verb.Put = apart (flag (codes "-t")) ∷ flag (codes "-b") ∷ apart (
 own_rules verb.Rm = flag (codes "--entry") ∷ flag (codes "--newest") ∷ needed 0 ∷ []
 own_rules verb.Purge = number (codes "-k") ∷ needed 0 ∷ []
 own_rules verb.Mkdir = number (codes "--names") ∷ text (codes "--owner") ∷ needed 0 ∷ []
+own_rules verb.Convert = word (codes "path") ∷ text (codes "--to") ∷ flag (codes "--blocks-only") ∷ []
 own_rules verb.Init = number (codes "--files") ∷ text (codes "--label") ∷ word (codes "size") ∷ []
 
 -- a command with only its own arguments

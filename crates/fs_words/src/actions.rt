@@ -1,4 +1,5 @@
 //! The commands that words request.
+use crate::layering::Layering;
 use ods_base::Uic;
 use ods_order::Order;
 use ods_records::Wanted;
@@ -75,6 +76,11 @@ pub enum Action<'a> {
         files: Option<u32>,
         label: Option<&'a str>,
         order: Option<Order>,
+    },
+    /// Writes the volume into another image, in this order of sectors, if one is given: with `alone` only its blocks.
+    Convert {
+        order: Option<Layering>,
+        alone: bool,
     },
     /// Runs the commands in this file of the host, or in standard input if it is `-`. With `keep_going`, continues past commands that are refused.
     Commands {

@@ -9,6 +9,7 @@ mod check;
 mod chmod;
 mod chown;
 mod cmp;
+mod convert;
 mod cp;
 mod df;
 mod du;
@@ -90,6 +91,7 @@ fn row_of(verb: Verb) -> Row<'static>
         Verb::Label => label::ROW,
         Verb::Repair => repair::ROW,
         Verb::Init => init::ROW,
+        Verb::Convert => convert::ROW,
         Verb::File => FILE_ROW,
     }
 }
@@ -132,6 +134,7 @@ pub(crate) fn action_of<'a>(
         Verb::Label => label::action(alloc, own),
         Verb::Repair => repair::action(alloc, own),
         Verb::Init => init::action(alloc, own),
+        Verb::Convert => convert::action(alloc, own),
         // No name of a command gives it.
         Verb::File => Err(wanting(alloc, false)?),
     }

@@ -68,7 +68,7 @@ pub fn serves(choice: Choice, verb: Verb) -> bool
             verb.changes() || matches!(verb, Verb::Get | Verb::Rescue | Verb::Init | Verb::File)
         }
         Choice::Force => verb.changes() || matches!(verb, Verb::Get | Verb::File),
-        Choice::Json => !matches!(verb, Verb::Cat | Verb::Tar | Verb::Repair),
+        Choice::Json => !matches!(verb, Verb::Cat | Verb::Tar | Verb::Repair | Verb::Convert),
         Choice::Stamp => {
             matches!(
                 verb,
@@ -91,6 +91,7 @@ pub fn serves(choice: Choice, verb: Verb) -> bool
                     | Verb::Rescue
                     | Verb::Label
                     | Verb::Repair
+                    | Verb::Convert
             )
         }
         Choice::Quiet | Choice::Blocks => !matches!(verb, Verb::Init),

@@ -63,12 +63,14 @@ pub enum Verb {
     Repair,
     /// `init`: makes an image of a new volume.
     Init,
+    /// `convert`: writes the volume into another image.
+    Convert,
     /// `-f`: runs the commands in a file.
     File,
 }
 
 /// The commands, in the order of the help.
-pub(crate) const VERBS: [Verb; 27] = [
+pub(crate) const VERBS: [Verb; 28] = [
     Verb::Ls,
     Verb::Find,
     Verb::Stat,
@@ -96,6 +98,7 @@ pub(crate) const VERBS: [Verb; 27] = [
     Verb::Label,
     Verb::Repair,
     Verb::Init,
+    Verb::Convert,
 ];
 
 impl Verb {
@@ -131,6 +134,7 @@ impl Verb {
             Verb::Untar => "untar",
             Verb::Repair => "repair",
             Verb::Init => "init",
+            Verb::Convert => "convert",
             Verb::File => "-f",
         }
     }

@@ -1,7 +1,7 @@
 //! Requests of a user on a sound volume.
 ghost use Rattle.std.specs.Prelude.{◌≡◌, length, true, IfOk, IfErr, OnOk, OnErr};
 ghost use Rattle.std.specs.List.{All};
-ghost use Rattle.ods_space.specs.{Disks.on, Free.free_blocks};
+ghost use Rattle.ods_space.specs.{Disks.on, Free.free_blocks, Free.free_numbers};
 ghost use Rattle.ods_mount.specs.Sound.{IsSoundBy};
 ghost use Rattle.ods_state.specs.{Outcome.CanBeAsked, Served.IsRefusalOf};
 ghost use Rattle.ods_amend.specs.Bits.{IsLoose};
@@ -142,6 +142,13 @@ impl Filing {
         ensures { result ≡ length (free_blocks self.now.image self.now.layout) }
     {
         self.sound.free_count()
+    }
+
+    /// Returns the number of free file numbers with a header: how many files can be made before INDEXF.SYS has to grow.
+    pub fn number_count(&self) -> u32
+        ensures { result ≡ length (free_numbers self.now.image self.now.layout) }
+    {
+        self.sound.number_count()
     }
 
     /// Returns the user of the requests.

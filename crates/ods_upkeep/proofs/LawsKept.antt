@@ -102,7 +102,7 @@ left_next_version old mid dir name None version (inr unseen) = left_same old mid
 -- so does INDEXF.SYS that grows
 pub left_ready : (count : ℕ) (old ready : Filed) → MayHaveGrown count old ready → IsAllLeft old ready
 left_ready count old ready (inl same) = left_same old ready same
-left_ready count old ready (inr grown) = λ C s. record { left = C; shown = (grown.headers.shown C).0 s; all = all_of_itself C }
+left_ready count old ready (inr (files, readied, grown)) = λ C s. record { left = C; shown = (grown.headers.shown C).0 s; all = all_of_itself C }
 
 -- a new file has an ID that no file had
 created_other : (C : Catalogue) (id : FileId) (whole : File) → finmap.get C.files id ≡ None → (q : FileId) (f : File) → finmap.get C.files q ≡ Some f → finmap.get (created C id whole).files q ≡ Some f

@@ -29,6 +29,7 @@ use Rattle.ods_shell.specs.declared.path_fault.PathFault.TheVariants as fault
 use Rattle.ods_upkeep.specs.Looked.{IsNextVersion}
 use Rattle.ods_upkeep.specs.Pieces.{with_end}
 use Rattle.ods_upkeep.specs.PutFor.{IsMadeFor}
+use Rattle.ods_upkeep.specs.Ready.{MayHaveGrown}
 use Rattle.ods_upkeep.specs.Sources.{AreSources}
 use Rattle.ods_upkeep.specs.Target.{IsTarget}
 use Rattle.ods_upkeep.specs.declared.asked.Placing.{Placing}
@@ -115,8 +116,12 @@ abbrev pub AreCopied : Placing → Target → List ℕ → List Found → Filed 
 AreCopied placing to stamp [] old new = new ≡ old
 AreCopied placing to stamp (f ∷ found) old new = (mid : Filed) × IsCopied placing to stamp f old mid × AreCopied placing to stamp found mid new
 
--- Each file that these paths select, the highest version if they specify none, is copied to the target of the last path. Nothing else was done.
+-- these files are copied, in order; nothing else was done, except that INDEXF.SYS may have grown for them
+abbrev pub AreAllCopied : Placing → Target → List ℕ → List Found → Filed → Filed → Type 0
+AreAllCopied placing to stamp found old new = (ready : Filed) × MayHaveGrown (length found) old ready × AreCopied placing to stamp found ready new
+
+-- Each file that these paths select, the highest version if they specify none, is copied to the target of the last path.
 abbrev pub IsCopiedTo : Placing → List ℕ → List (Bor (List ℕ)) → List ℕ → Filed → Filed → Type 0
 IsCopiedTo placing stamp paths to old new =
     (found : List Found) × ((target : Target) × AreSources old.image old.layout (highest alone.Files) paths found × IsTarget old.image old.layout (length found) to target
-    × AreCopied placing target stamp found old new)
+    × AreAllCopied placing target stamp found old new)

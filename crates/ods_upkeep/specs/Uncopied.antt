@@ -18,6 +18,7 @@ use Rattle.ods_shell.specs.declared.found.Found.{Found}
 use Rattle.ods_upkeep.specs.Copied.{IsCopyable, IsCopied, IsUncopyable, IsUnread, true_for}
 use Rattle.ods_upkeep.specs.Looked.{IsNextVersion}
 use Rattle.ods_upkeep.specs.PutFor.{IsMadeFor}
+use Rattle.ods_upkeep.specs.Ready.{MayHaveGrown}
 use Rattle.ods_upkeep.specs.Refused.{AreNoSources, HasPath}
 use Rattle.ods_upkeep.specs.Sources.{AreSources}
 use Rattle.ods_upkeep.specs.Target.{IsNoTarget, IsTarget}
@@ -68,11 +69,11 @@ StopsCopying placing to stamp (f ∷ found) old new failure =
     (HasPath failure (string_bytes f.path) × IsNotCopied placing to stamp f old new failure.why)
     ⊎ ((mid : Filed) × IsCopied placing to stamp f old mid × StopsCopying placing to stamp found mid new failure)
 
--- why not all of these are copied: one may not be, and nothing was done; or one is not
+-- why not all of these are copied: one may not be, and nothing was done; or one is not, after INDEXF.SYS may have grown
 abbrev pub AreNotCopied : Placing → Target → List ℕ → List Found → Filed → Filed → Failure → Type 0
 AreNotCopied placing to stamp found old new failure =
     ((new ≡ old) × IsFirstUncopyable (Some old.user) to found failure)
-    ⊎ (MayAllBeCopied (Some old.user) to found × StopsCopying placing to stamp found old new failure)
+    ⊎ (MayAllBeCopied (Some old.user) to found × ((ready : Filed) × MayHaveGrown (length found) old ready × StopsCopying placing to stamp found ready new failure))
 
 -- Why not all files that these paths select are copied, and what was done before: there are no sources, or no target, and nothing was done; or not
 -- all of the sources are copied.

@@ -5,7 +5,7 @@ ghost use Rattle.ods_base.specs.declared.name.Pick.{Pick};
 ghost use Rattle.ods_files.specs.Body.{Body, HasBody, bytes_in};
 ghost use Rattle.ods_header.specs.Text.{ident_text};
 ghost use Rattle.ods_shell.specs.HostNames.{before_version};
-ghost use Rattle.ods_upkeep.specs.{Copied.IsCopied, Copied.IsCopiedTo, Copied.IsCopyMade, Copied.IsCopyable, Copied.IsUncopyable, Copied.IsUnread, Copied.NamesCopy, Copied.may_read, Copied.why_unread as why_for, Kinds.Copies, Legs.IsLedGiving};
+ghost use Rattle.ods_upkeep.specs.{Copied.IsCopied, Copied.IsCopiedTo, Copied.IsCopyMade, Copied.IsCopyable, Copied.IsUncopyable, Copied.IsUnread, Copied.NamesCopy, Copied.may_read, Copied.why_unread as why_for, CopiedFrom.IsLedFrom, Kinds.Copies, Legs.IsLedGiving};
 ghost use Rattle.ods_upkeep.specs.declared.asked.Placing.TheVariants.{Anywhere};
 ghost use Rattle.ods_space.specs.Files.{FindsFiles};
 ghost use Rattle.ods_space.specs.Disks.{on};
@@ -16,6 +16,7 @@ use crate::asking::put_new;
 use crate::attributes::true_for;
 use crate::failure::{Failure, Why, of_path};
 use crate::looking::next_version;
+use crate::readying::make_ready;
 use crate::sources::sources;
 use crate::target::Target;
 use crate::targets::target_of;
@@ -39,9 +40,10 @@ pub fn copy_files(
     paths: &[&str],
     to: &str,
 ) -> Result<(), Failure>
-    // Where they may stand anywhere, it is what LookUp, Create, Extend, Write, SetUser and Enter leave, with protections set in between.
-    ensures led { placing ≡ Anywhere → OnOk result (IsLedGiving Copies filing.old filing.new) }
-    // Done, each file that is meant is copied to the target, and nothing else was done.
+    // Where they may stand anywhere, it is what LookUp, Create, Extend, Write, SetUser and Enter leave, with protections set in between, behind a
+    // growth of INDEXF.SYS.
+    ensures led { placing ≡ Anywhere → OnOk result (IsLedFrom filing.old filing.new) }
+    // Done, each file that is meant is copied to the target. Nothing else was done, but that INDEXF.SYS may have grown for them.
     ensures done { OnOk result (IsCopiedTo placing stamp paths.now to.now filing.old filing.new) }
     // Refused, it is so for a reason that holds, and of the path that the failure says.
     ensures refused { IfErr result (IsNotCopiedTo placing stamp paths.now to.now filing.old filing.new) }
@@ -54,6 +56,7 @@ pub fn copy_files(
     )?;
     let target = target_of(alloc, filing.mounted(), all.len(), to)?;
     check_all(alloc, &all, &target, Some(filing.user()))?;
+    make_ready(filing, all.len());
     copy_all(alloc, filing, placing, &all, &target, stamp)
 }
 

@@ -3,7 +3,7 @@ ghost use Rattle.std.specs.Prelude.{◌≡◌, is_some, not, ◌&&◌, false, tr
 ghost use Rattle.ods_upkeep.specs.{Begun.AreKept, Begun.AreNames, Begun.IsBegun, Begun.count_of, Begun.keeps_form, Begun.path_to};
 ghost use Rattle.ods_upkeep.specs.{HostPut.AreCountedOn, HostPut.AreNotedOn, HostPut.IsFormFor, HostPut.IsHostPut, HostPut.IsPutAs, HostPut.IsRemarkFor, HostPut.IsStill, HostPut.IsVersionFor};
 ghost use Rattle.ods_upkeep.specs.declared.asked.Placing.TheVariants.{Anywhere};
-ghost use Rattle.ods_upkeep.specs.{Left.at_time, Left.replaced_version, Left.replaces, Legs.IsPutLed, PutFor.IsProtected, PutFor.IsPut, PutFor.IsUnprotected, Ready.MayHaveGrown, Refused.HasPath, Refused.IsOutOfMemory, Refused.no_memory, Remarks.IsRemarkOn};
+ghost use Rattle.ods_upkeep.specs.{Left.at_time, Left.replaced_version, Left.replaces, Legs.IsPutLed, PutFor.IsProtected, PutFor.IsPut, PutFor.IsUnprotected, Refused.HasPath, Refused.IsOutOfMemory, Refused.no_memory, Remarks.IsRemarkOn};
 ghost use Rattle.ods_upkeep.specs.{Unbegun.IsNotBegun, Unput.IsNotPut, Unput.IsNotStored, Written.bytes_of};
 
 use crate::asking::put_new;
@@ -13,7 +13,6 @@ use crate::keeping::{attributes_before, kept_form};
 use crate::like_files::{attributes_in, like_facts, placing_by};
 use crate::looking::next_version;
 use crate::names::Names;
-use crate::readying::make_ready;
 use crate::rooms::make_room;
 use crate::target::Target;
 use crate::targets::target_of;
@@ -91,17 +90,6 @@ impl Putting {
             names,
             highest,
         })
-    }
-
-    /// Requests the headers of `files` files at once, before the first is put, so that they share a few pointers of INDEXF.SYS. If the request is
-    /// refused, nothing changes, and each file requests its own. If files are replaced it requests none, since the old files free theirs.
-    pub fn make_ready(&self, filing: &mut Filing, files: usize)
-        ensures grown { MayHaveGrown files filing.old filing.new }
-        ensures replaces { replaces self.now ≡ true → filing.new ≡ filing.old }
-    {
-        if self.names.is_none() {
-            make_ready(filing, files);
-        }
     }
 
     /// Sets the date and time of creation of the files that are put from now on.

@@ -12,7 +12,7 @@ use std::alloc::Global;
 
 /// How `get` is written.
 pub(crate) const ROW: Row<'static> = Row {
-    usage: "f11fs IMAGE get [OPTIONS] [-t|-b|--raw] [-p] [-r|--deleted [--partial]] PATH.. [TARGET]",
+    usage: "f11fs IMAGE get [OPTIONS] [-t|-b|--raw] [-p] [-r|[--deleted] [--partial]] PATH.. [TARGET]",
     about: "Copy files to the host",
     arguments: &[
         TEXT,
@@ -32,14 +32,14 @@ pub(crate) const ROW: Row<'static> = Row {
         ),
         Argument::Flag(
             "--partial",
-            "With --deleted: copy what is left of a file that is not whole, with zeros for blocks that are used again or outside the volume",
+            "Copy what is left of a file that is not whole, with zeros for blocks outside the image, and with --deleted for blocks that are used again",
         ),
         Argument::SomePaths,
     ],
     conflicts: &FORMS_APART,
 };
 
-/// What its words ask for; `out` is what `-o` says. `--partial` does nothing alone, and `-r` nothing for deleted files, which stand in no directory.
+/// What its words ask for; `out` is what `-o` says. `--partial` does nothing with `-r`, and `-r` nothing for deleted files, which are in no directory.
 pub(crate) fn action<'a>(
     alloc: Global,
     own: &ArgMatches<'a>,
@@ -52,8 +52,8 @@ pub(crate) fn action<'a>(
     let below = own.get_flag("-r");
     let deleted = own.get_flag("--deleted");
     let partial = own.get_flag("--partial");
-    if partial && !deleted {
-        let text = "error: --partial does nothing for get without --deleted";
+    if partial && below {
+        let text = "error: --partial does nothing for get with -r";
         return Err(say_wrong(alloc, text)?);
     }
     if below && deleted {

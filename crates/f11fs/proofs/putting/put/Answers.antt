@@ -12,4 +12,4 @@ returns-clause-done g c =
     (c.read_where-zone.ensures ∙ c.takes_times.ensures)
     (c.path_among-to.ensures ∙ ap (λ (ws : List (Bor (List ℕ))). path_among ws) c.as_slice-2.ensures.value)
     (c.hosts-hosts.ensures ∙ ap (λ (ws : List (Bor (List ℕ))). hosts_among ws) c.as_slice.ensures.value)
-    c.form_of.ensures c.placing_of.ensures c.make_ready.ensures.grown c.make_ready.ensures.replaces c.put_each.ensures.done
+    c.form_of.ensures c.placing_of.ensures (subst (λ (n : ℕ). MayHaveGrown n c.args.filing.now c.make_ready.new.filing) c.len-2.ensures c.make_ready.ensures) c.put_each.ensures.done
