@@ -51,10 +51,11 @@ def differs(said: bytes, members: list[Member]) -> list[str]:
             found = [(one, (archive.extractfile(one) or io.BytesIO()).read()) for one in archive.getmembers()]
     except (tarfile.TarError, ValueError) as error:
         return [f"no archive: {error}"]
-    if [one.name for one, _ in found] != [member.path for member in members]:
-        return [f"members {[one.name for one, _ in found]}, not {[member.path for member in members]}"]
+    names = [one.name + "/" * one.isdir() for one, _ in found]
+    if names != [member.path for member in members]:
+        return [f"members {names}, not {[member.path for member in members]}"]
     for (one, data), member in zip(found, members):
-        if not one.isfile() or data != member.data:
+        if not (one.isfile() or one.isdir()) or data != member.data:
             wrong.append(f"{one.name} has {shown(data)}, not {shown(member.data)}")
         records = {keyword: value for keyword, value in one.pax_headers.items() if keyword != "path"}
         if member.records and list(records.items()) != list(member.records.items()):

@@ -23,7 +23,7 @@ What stands below a command is of that command; commands with no line between th
     any order                its lines are printed in any order
     archive                  it prints an archive of tar, with just these members in this order, by Python's tarfile:
     packs PATH FORM          an archive of the host that is there before, by tarfile, with the members that follow; FORM is ustar, gnu or pax
-    member PATH = CONTENT    a member, with these bytes
+    member PATH = CONTENT    a member, with these bytes; member PATH/ = "" a directory
     record KEYWORD=VALUE     a record of the member above; those that stand here are all that it has
     time STAMP               the local time of the member above
     type HEX WORD            the type of the member above, and the target of a link
@@ -86,6 +86,10 @@ class Member:
     records: dict[str, str] = dataclasses.field(default_factory=dict)
     stamp: str | None = None
     kind: tuple[bytes, str] = (b"0", "")
+
+    def __post_init__(self) -> None:
+        if self.path.endswith("/"):
+            self.kind = b"5", ""
 
 
 @dataclasses.dataclass

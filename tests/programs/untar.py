@@ -89,6 +89,41 @@ class Untar(Disk):
                 if data:
                     self.assertEqual(untarred(self, data, form), wanted, f"{form} {words}")
 
+    def test_directories_of_gnu_tar(self) -> None:
+        """An empty folder comes too, at its own time where no time is said."""
+        self.write({"pack/full/lines.txt": TEXT})
+        (self.folder / "pack" / "empty" / "low").mkdir(parents=True)
+        for path in ("empty/low", "empty"):
+            os.utime(self.folder / "pack" / path, (500_000_000, 500_000_000))
+        for form in ("ustar", "gnu", "oldgnu", "pax", "v7"):
+            for words in (["."], ["empty", "full"]):
+                data = packed(self, f"--format={form}", *words)
+                if data:
+                    self.assertEqual([*untarred(self, data, form)], ["[FULL]LINES.TXT;1"], f"{form} {words}")
+                    self.assertLessEqual({"[EMPTY]", "[EMPTY.LOW]", "[FULL]"}, {*self.volume().directories}, f"{form} {words}")
+                    self.image.write_bytes(self.before)
+                    ended, out, err = self.f11fs("disk", "untar", "a.tar", env={**os.environ, "TZ": "UTC0"})
+                    self.assertEqual((ended, out), (0, b""), f"{form} {words}: {err!r}")
+                    volume = self.volume()
+                    for path in ("[0,0]EMPTY.DIR;1", "[EMPTY]LOW.DIR;1"):
+                        self.assertEqual(volume.files[volume.paths[path]].created, b"05NOV85005320", f"{form} {words} {path}")
+
+    def test_directories_for_gnu_tar(self) -> None:
+        """GNU tar lists and unpacks an archive with directories."""
+        for words in (["-q", "disk", "mkdir", "EMPTY"], ["-q", "disk", "mkdir", "EMPTY/LOW"]):
+            self.assertEqual(self.f11fs(*words)[0], 0, f"{words}")
+        ended, data, err = self.f11fs("disk", "tar")
+        self.assertEqual((ended, err), (0, b""))
+        self.write({"pack/x": b""})
+        if not packed(self, "x"):
+            return
+        (self.folder / "out").mkdir()
+        (self.folder / "a.tar").write_bytes(data)
+        listed = subprocess.run(["tar", "-tf", "a.tar"], cwd=self.folder, capture_output=True, timeout=60)
+        self.assertEqual((listed.returncode, {b"empty/", b"empty/low/"} <= {*listed.stdout.split(b"\n")}), (0, True), f"{listed}")
+        ran = subprocess.run(["tar", "-xf", "a.tar", "-C", "out"], cwd=self.folder, capture_output=True, timeout=60)
+        self.assertEqual((ran.returncode, (self.folder / "out" / "empty" / "low").is_dir()), (0, True), f"{ran}")
+
     def test_long_names(self) -> None:
         """GNU tar and Python write a path above 100 bytes into a member of its own, before its member, or into a record."""
         folders = [f"ABCDEFGH{number}" for number in range(1, 10)]

@@ -1,16 +1,24 @@
 -- What untar leaves of a volume.
-use Rattle.std.specs.Prelude.{◌≡◌, ◌≤◌, ◌⊎◌, ℕ, Bool, true, false, if◌then◌else◌, nat_le, List, [], ◌∷◌, codes, length, slice_get, Option, Some, None}
+use Rattle.std.specs.Prelude.{◌≡◌, ◌||◌, ℕ, Bool, true, false, if◌then◌else◌, MatchBool, nat_le, List, [], ◌∷◌, ◌++◌, codes, length, slice_get, Option, Some, None, is_some}
 use Rattle.std.specs.Borrow.{Bor}
 use Rattle.ods_archive.specs.Members.{entry_of}
+use Rattle.ods_archive.specs.declared.kind.Kind.{Kind}
+use Rattle.ods_archive.specs.declared.kind.Kind.TheVariants.{Directory}
+use Rattle.ods_base.specs.declared.file_id.FileId.{FileId}
 use Rattle.ods_filing.specs.Filed.{Filed}
-use Rattle.ods_untar.specs.Below.{below}
+use Rattle.ods_untar.specs.Below.{bare, below}
 use Rattle.ods_untar.specs.Wanted.{AsksFor}
 use Rattle.ods_upkeep.specs.Ready.{MayHaveGrown}
+use Rattle.ods_untar.specs.declared.told.Told.{Told}
 use Rattle.ods_untar.specs.declared.wanted.Wanted.{Wanted}
+use Rattle.ods_upkeep.specs.DirectoryUntarred.{IsDirectoryUntarred}
+use Rattle.ods_upkeep.specs.Given.{GetTheirs}
 use Rattle.ods_upkeep.specs.Untarred.{IsUntarred}
 use Rattle.ods_upkeep.specs.declared.asked.Placing.{Placing}
 use Rattle.ods_upkeep.specs.declared.asked.Placing.TheVariants.{Anywhere, InOnePiece}
+use Rattle.ods_upkeep.specs.declared.giving.Access.{Access}
 use Rattle.ods_upkeep.specs.declared.untarring.Packed.{Packed}
+use Rattle.ods_upkeep.specs.declared.untarring_directories.PackedDirectory.{PackedDirectory}
 use Rattle.f11fs.specs.Dated.{IsTimeOf}
 
 -- the first word is the archive; without words it is standard input
@@ -42,21 +50,58 @@ pub record IsPackedFrom (said : Bool) (directory : Option (Bor (List ℕ))) (run
   pub protection : packed.protection ≡ wanted.told.protection
   pub placing : packed.placing ≡ placing_told wanted.told.characteristics
 
+-- the directory of an archive entry: below the specified directory, without slashes at its end, and at its time
+pub record IsDirectoryFrom (said : Bool) (directory : Option (Bor (List ℕ))) (run : List ℕ) (wanted : Wanted) (packed : PackedDirectory) : Type 0 where
+  pub path : packed.path.now ≡ below directory (bare (entry_of wanted.found).path)
+  pub stamp : IsMemberTime said run wanted.found.mtime packed.stamp
+
+abbrev pub is_directory : Kind → Bool
+is_directory Directory = true
+is_directory kind = false
+
+-- the records give an owner or a protection
+abbrev pub has_access : Told → Bool
+has_access told = is_some told.owner || is_some told.protection
+
+-- this file receives the owner and the protection in these records
+abbrev pub IsAccessOf : Told → FileId → Access → Type 0
+IsAccessOf told file access = (access.file ≡ file) × (access.owner ≡ told.owner) × (access.protection ≡ told.protection)
+
+-- What remains to be given to a directory: the owner and the protection in its records, if it was created. A directory that existed receives nothing.
+abbrev pub IsDue : Told → Option FileId → List Access → Type 0
+IsDue told None due = due ≡ []
+IsDue told (Some file) due = MatchBool (has_access told) ((access : Access) × IsAccessOf told file access × (due ≡ access ∷ [])) (due ≡ [])
+
 -- the file is put
-abbrev pub IsPut : Bool → Option (Bor (List ℕ)) → List ℕ → Wanted → Filed → Filed → Type 0
-IsPut said directory stamp wanted old new = (packed : Packed) × IsPackedFrom said directory stamp wanted packed × IsUntarred stamp packed old new
+abbrev pub IsFilePut : Bool → Option (Bor (List ℕ)) → List ℕ → Wanted → Filed → Filed → Type 0
+IsFilePut said directory stamp wanted old new = (packed : Packed) × IsPackedFrom said directory stamp wanted packed × IsUntarred stamp packed old new
+
+-- the directory exists; `due` remains to be given
+abbrev pub IsDirectoryPut : Bool → Option (Bor (List ℕ)) → List ℕ → Wanted → List Access → Filed → Filed → Type 0
+IsDirectoryPut said directory stamp wanted due old new =
+    (packed : PackedDirectory) × (made : Option FileId) × IsDirectoryFrom said directory stamp wanted packed × IsDirectoryUntarred stamp packed made old new × IsDue wanted.told made due
+
+-- the directory or the file is put
+abbrev pub IsPut : Bool → Option (Bor (List ℕ)) → List ℕ → Wanted → List Access → Filed → Filed → Type 0
+IsPut said directory stamp wanted due old new =
+    MatchBool (is_directory wanted.found.kind) (IsDirectoryPut said directory stamp wanted due old new) ((due ≡ []) × IsFilePut said directory stamp wanted old new)
 
 -- each of these, in order
-abbrev pub ArePutFrom : Bool → Option (Bor (List ℕ)) → List ℕ → List Wanted → Filed → Filed → Type 0
-ArePutFrom said directory stamp [] old new = new ≡ old
-ArePutFrom said directory stamp (w ∷ wanted) old new = (mid : Filed) × IsPut said directory stamp w old mid × ArePutFrom said directory stamp wanted mid new
+abbrev pub ArePutFrom : Bool → Option (Bor (List ℕ)) → List ℕ → List Wanted → List Access → Filed → Filed → Type 0
+ArePutFrom said directory stamp [] due old new = (due ≡ []) × (new ≡ old)
+ArePutFrom said directory stamp (w ∷ wanted) due old new =
+    (first : List Access) × (rest : List Access) × (mid : Filed) × (due ≡ first ++ rest) × IsPut said directory stamp w first old mid × ArePutFrom said directory stamp wanted rest mid new
 
--- Each file of an archive was put, below the directory that the words specify. The host gave the bytes of the archive. Before the first INDEXF.SYS
--- may get the headers that it lacks for all of them. Nothing else was done.
+-- Each file and directory of an archive was put, below the directory that the words specify. The host gave the bytes of the archive. Before the first
+-- INDEXF.SYS may get the headers that it lacks for all of them. After the last each directory that was created receives the owner and the protection
+-- in its records. Nothing else was done.
 pub record AreUntarred (said : Bool) (words : List (Bor (List ℕ))) (stamp : List ℕ) (old new : Filed) : Type 0 where
   pub bytes : List ℕ
   pub wanted : List Wanted
   pub asked : AsksFor bytes wanted
   pub ready : Filed
   pub made_ready : MayHaveGrown (length wanted) old ready
-  pub put : ArePutFrom said (directory_among words) stamp wanted ready new
+  pub due : List Access
+  pub filled : Filed
+  pub put : ArePutFrom said (directory_among words) stamp wanted due ready filled
+  pub given : GetTheirs due filled new

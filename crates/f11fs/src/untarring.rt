@@ -1,6 +1,9 @@
-//! `untar`: the files of an archive of the host, put into a volume.
-ghost use Rattle.std.specs.Prelude.{◌≡◌, ◌*◌, ◌≤◌, false, is_some, length, not, IfErr, IfOk, OnOk, slice_get};
-ghost use Rattle.f11fs.specs.{Changed.IsRefusal, Unpacked.ArePutFrom, Unpacked.AreUntarred, Unpacked.IsMemberTime, Unpacked.IsPut, Unpacked.archive_among, Unpacked.directory_among, Unpacked.placing_told};
+//! `untar`: the files and directories of an archive of the host, put into a volume.
+ghost use Rattle.std.specs.Prelude.{◌≡◌, ◌++◌, ◌*◌, ◌≤◌, List, is_some, length, not, IfErr, OnOk, slice_get};
+ghost use Rattle.ods_filing.specs.Filed.{Filed};
+ghost use Rattle.ods_upkeep.specs.Given.{GetTheirs};
+ghost use Rattle.ods_upkeep.specs.declared.giving.Access.{Access as Given};
+ghost use Rattle.f11fs.specs.{Changed.IsRefusal, Unpacked.ArePutFrom, Unpacked.AreUntarred, Unpacked.IsDirectoryPut, Unpacked.IsDue, Unpacked.IsFilePut, Unpacked.IsMemberTime, Unpacked.IsPut, Unpacked.archive_among, Unpacked.directory_among, Unpacked.has_access as gives_access, Unpacked.is_directory as is_directory_kind, Unpacked.placing_told};
 
 use crate::changing::stop_failed;
 use crate::dating::time_at;
@@ -10,13 +13,16 @@ use crate::putting::taken_or_read;
 use fs_host::HostZone;
 use fs_reads::{Stop, WordFault, stop_about};
 use fs_words::Words;
-use ods_archive::{next_member, path_of};
+use ods_archive::{Kind, next_member, path_of};
+use ods_base::FileId;
 use ods_filing::Filing;
 use ods_request::Stamp;
 use ods_shell::Status;
-use ods_untar::{AskFault, Wanted, members_in, path_below};
-use ods_upkeep::{Packed, Placing, make_ready, untar_file};
-use std::alloc::Global;
+use ods_untar::{AskFault, Told, Wanted, directory_below, members_in, path_below};
+use ods_upkeep::{
+    Access, Packed, PackedDirectory, Placing, give_access, make_ready, untar_directory, untar_file,
+};
+use std::alloc::{AllocError, Global};
 use std::str;
 
 /// The bit of UC.CON among the characteristics of the user.
@@ -51,7 +57,7 @@ pub fn untar<'a, R: Host>(
         run: stamp,
         zone: HostZone::read_where(rt, words.stamp.is_none()),
     };
-    put_all(alloc, filing, &times, directory, files)
+    put_and_give(alloc, filing, &times, directory, files)
 }
 
 /// Which times files get.
@@ -64,7 +70,7 @@ struct Times {
 }
 
 impl Times {
-    /// Returns the time of a file by the time of its member, in seconds since 1970; if the member has none, the time of the run.
+    /// Returns the time of a file or a directory by the time of its member, in seconds since 1970; if the member has none, the time of the run.
     fn of(&self, time: Option<u64>) -> Stamp
         ensures { IsMemberTime (not (is_some self.now.zone)) self.now.run time result }
     {
@@ -100,42 +106,167 @@ fn most_bytes(filing: &Filing) -> u64
     archive_room(Some(bytes)).unwrap_or(bytes)
 }
 
-/// Puts these files, one after another.
-fn put_all<'a>(
+/// Puts these files and directories, and then gives directories what remains to be given to them.
+fn put_and_give<'a>(
     alloc: Global,
     filing: &mut Filing,
     times: &Times,
     directory: Option<&str>,
     wanted: &[Wanted<'_>],
 ) -> Result<(), Stop<'a>>
-    ensures done { OnOk result (ArePutFrom (not (is_some times.now.zone)) directory.entry times.now.run wanted.now filing.old filing.new) }
+    ensures done { OnOk result ((due : List Given) × (filled : Filed)
+        × ArePutFrom (not (is_some times.now.zone)) directory.entry times.now.run wanted.now due filing.old filled × GetTheirs due filled filing.new) }
+    ensures refused { IfErr result IsRefusal }
+{
+    let mut due = Vec::new(alloc);
+    put_all(alloc, filing, times, directory, wanted, &mut due)?;
+    give_due(alloc, filing, due.as_slice())
+}
+
+/// Gives files their owners and protections.
+fn give_due<'a>(alloc: Global, filing: &mut Filing, due: &[Access]) -> Result<(), Stop<'a>>
+    ensures done { OnOk result (GetTheirs due.now filing.old filing.new) }
+    ensures refused { IfErr result IsRefusal }
+{
+    match give_access(alloc, filing, due) {
+        Ok(()) => Ok(()),
+        Err(failure) => Err(stop_failed(alloc, &failure)),
+    }
+}
+
+/// Puts these files and directories, one after another. What remains to be given to directories is added to `due`.
+fn put_all<'a>(
+    alloc: Global,
+    filing: &mut Filing,
+    times: &Times,
+    directory: Option<&str>,
+    wanted: &[Wanted<'_>],
+    due: &mut Vec<Access>,
+) -> Result<(), Stop<'a>>
+    ensures done { OnOk result ((more : List Given) × (due.new.items ≡ due.old.items ++ more)
+        × ArePutFrom (not (is_some times.now.zone)) directory.entry times.now.run wanted.now more filing.old filing.new) }
     ensures refused { IfErr result IsRefusal }
 {
     for one in wanted {
-        put_one(alloc, filing, times, directory, one)?;
+        put_one(alloc, filing, times, directory, one, due)?;
     }
     Ok(())
 }
 
-/// Puts a file.
+/// Puts a file or a directory.
 fn put_one<'a>(
     alloc: Global,
     filing: &mut Filing,
     times: &Times,
     directory: Option<&str>,
     wanted: &Wanted<'_>,
+    due: &mut Vec<Access>,
 ) -> Result<(), Stop<'a>>
-    ensures done { OnOk result (IsPut (not (is_some times.now.zone)) directory.entry times.now.run wanted.now filing.old filing.new) }
+    ensures done { OnOk result ((more : List Given) × (due.new.items ≡ due.old.items ++ more)
+        × IsPut (not (is_some times.now.zone)) directory.entry times.now.run wanted.now more filing.old filing.new) }
+    ensures refused { IfErr result IsRefusal }
+{
+    if is_directory(wanted.found.kind) {
+        return put_directory(alloc, filing, times, directory, wanted, due);
+    }
+    put_file(alloc, filing, times, directory, wanted)
+}
+
+/// Whether a member of this type is a directory.
+fn is_directory(kind: Kind) -> bool
+    ensures { result ≡ is_directory_kind kind }
+{
+    matches!(kind, Kind::Directory)
+}
+
+/// Sees that a directory is there.
+fn put_directory<'a>(
+    alloc: Global,
+    filing: &mut Filing,
+    times: &Times,
+    directory: Option<&str>,
+    wanted: &Wanted<'_>,
+    due: &mut Vec<Access>,
+) -> Result<(), Stop<'a>>
+    ensures done { OnOk result ((more : List Given) × (due.new.items ≡ due.old.items ++ more)
+        × IsDirectoryPut (not (is_some times.now.zone)) directory.entry times.now.run wanted.now more filing.old filing.new) }
+    ensures refused { IfErr result IsRefusal }
+{
+    let path = directory_below(alloc, directory, &wanted.found)?;
+    let Ok(path) = str::from_utf8(path.as_slice()) else {
+        return Err(no_text(alloc));
+    };
+    let packed = PackedDirectory {
+        path,
+        stamp: times.of(wanted.found.mtime),
+    };
+    let made = match untar_directory(alloc, filing, times.run, &packed) {
+        Ok(made) => made,
+        Err(failure) => return Err(stop_failed(alloc, &failure)),
+    };
+    push_due(alloc, due, path, made, &wanted.told)?;
+    Ok(())
+}
+
+/// Adds what remains to be given to a directory, if it was created.
+fn push_due(
+    alloc: Global,
+    due: &mut Vec<Access>,
+    path: &str,
+    made: Option<FileId>,
+    told: &Told,
+) -> Result<(), AllocError>
+    ensures { OnOk result ((more : List Given) × (due.new.items ≡ due.old.items ++ more) × IsDue told.now made more) }
+{
+    let Some(file) = made else {
+        return Ok(());
+    };
+    if !has_access(told) {
+        return Ok(());
+    }
+    let access = Access {
+        path: String::from_str(alloc, path)?,
+        file,
+        owner: told.owner,
+        protection: told.protection,
+    };
+    due.push(access)?;
+    Ok(())
+}
+
+/// Whether records give an owner or a protection.
+fn has_access(told: &Told) -> bool
+    ensures { result ≡ gives_access told.now }
+{
+    told.owner.is_some() || told.protection.is_some()
+}
+
+/// The end of a command of whose archive a path is no text.
+fn no_text<'a>(alloc: Global) -> Stop<'a>
+    ensures { IsRefusal result }
+{
+    stop_about(
+        alloc,
+        "an archive",
+        "the path of a member is not UTF-8 text",
+        Status::Refused,
+    )
+}
+
+/// Puts a file.
+fn put_file<'a>(
+    alloc: Global,
+    filing: &mut Filing,
+    times: &Times,
+    directory: Option<&str>,
+    wanted: &Wanted<'_>,
+) -> Result<(), Stop<'a>>
+    ensures done { OnOk result (IsFilePut (not (is_some times.now.zone)) directory.entry times.now.run wanted.now filing.old filing.new) }
     ensures refused { IfErr result IsRefusal }
 {
     let path = path_below(alloc, directory, &wanted.found)?;
     let Ok(path) = str::from_utf8(path.as_slice()) else {
-        return Err(stop_about(
-            alloc,
-            "an archive",
-            "the path of a member is not UTF-8 text",
-            Status::Refused,
-        ));
+        return Err(no_text(alloc));
     };
     let packed = Packed {
         path,

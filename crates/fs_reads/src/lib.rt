@@ -37,6 +37,7 @@ mod showing;
 mod stop;
 mod tar_folders;
 mod tarring;
+mod tarring_directories;
 mod volume;
 
 pub use checking::{check, check_image};

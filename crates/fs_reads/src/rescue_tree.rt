@@ -1,7 +1,7 @@
 //! The host path of a rescued file: below the folders of the directories whose names reach it. Folders are created as files arrive.
 ghost use Rattle.std.specs.Prelude.{◌≡◌, ◌⊎◌, ◌++◌, string_bytes, IfErr, IfOk, OnOk};
 ghost use Rattle.std.specs.List.{flat_map};
-ghost use Rattle.fs_reads.specs.{Ends.StopsWith, Trees.folder_name, Trees.folder_text as text_of_folder, Trees.name_below as text_below, Trees.slashed};
+ghost use Rattle.fs_reads.specs.{Ends.StopsWith, Trees.folder_name as name_of_folder, Trees.folder_text as text_of_folder, Trees.name_below as text_below, Trees.slashed};
 ghost use Rattle.fs_reads.specs.declared.stop.Stop.{Stop as End};
 ghost use Rattle.ods_shell.specs.declared.status.Status.{Status as Code};
 
@@ -16,13 +16,22 @@ use std::rt::Files;
 
 /// Appends the folder of a directory: `1,2` for one of a group and a member, else its name; `_` where that is empty.
 fn push_folder(text: &mut String, name: &Name) -> Result<(), AllocError>
-    ensures { OnOk result (string_bytes text.new ≡ string_bytes text.old ++ folder_name name.now) }
+    ensures { OnOk result (string_bytes text.new ≡ string_bytes text.old ++ name_of_folder name.now) }
 {
     if print_title(name).is_empty() {
         text.push_str("_")
     } else {
         push_directory_name(text, name)
     }
+}
+
+/// Returns the folder of a directory, as `push_folder` appends it.
+pub(crate) fn folder_name(alloc: Global, name: &Name) -> Result<String, AllocError>
+    ensures { IfOk result (λ text. string_bytes text ≡ name_of_folder name.now) }
+{
+    let mut text = String::new(alloc);
+    push_folder(&mut text, name)?;
+    Ok(text)
 }
 
 /// Returns the folders of a directory that these names reach, with slashes between them. The text is empty for the master directory.

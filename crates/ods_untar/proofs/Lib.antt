@@ -1,3 +1,4 @@
 pub mod Digits
 pub mod OneTold
 pub mod Wanting
+pub mod FromEnd

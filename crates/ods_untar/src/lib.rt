@@ -1,4 +1,4 @@
-//! The files of a tar archive for a volume, with the attributes, owners and protections of their records. The crate has no volume.
+//! The files and directories of a tar archive for a volume, with the attributes, owners and protections of their records. The crate has no volume.
 #![tactic(auto)]
 
 mod asking;
@@ -11,7 +11,7 @@ mod told;
 mod wanted;
 
 pub use asking::members_in;
-pub use below::path_below;
+pub use below::{directory_below, path_below};
 pub use faults::AskFault;
 pub use laws::one_told;
 pub use told::Told;

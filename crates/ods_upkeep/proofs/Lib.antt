@@ -1,6 +1,7 @@
 pub mod Again
 pub mod Counting
 pub mod Cutting
+pub mod DirectoriesUntarred
 pub mod Directing
 pub mod Doing
 pub mod Hiding

@@ -14,6 +14,7 @@ use Rattle.ods_shell.specs.declared.path_fault.PathFault.TheVariants.{NoSuchFile
 use Rattle.ods_upkeep.specs.Refused.{AreNoSources, HasPath}
 use Rattle.ods_upkeep.specs.Sources.{AreSources}
 use Rattle.ods_upkeep.specs.declared.failure.Failure.{Failure}
+use Rattle.ods_upkeep.specs.declared.giving.Access.{Access}
 use Rattle.ods_upkeep.specs.declared.failure.Why.{Why}
 use Rattle.ods_upkeep.specs.declared.failure.Why.TheVariants.{Path, Request}
 
@@ -51,3 +52,19 @@ abbrev pub AreNotGiven : Option Uic → Option ℕ → List (Bor (List ℕ)) →
 AreNotGiven owner protection paths old new failure =
     ((new ≡ old) × AreNoSources old.image old.layout (highest alone.Themselves) paths failure)
     ⊎ ((found : List Found) × AreSources old.image old.layout (highest alone.Themselves) paths found × StopsGiving owner protection found old new failure)
+
+-- each of these files receives its own owner and protection, each if it is given, in order
+abbrev pub GetTheirs : List Access → Filed → Filed → Type 0
+GetTheirs [] old new = new ≡ old
+GetTheirs (a ∷ all) old new = (mid : Filed) × HasGiven old a.file a.owner a.protection mid × GetTheirs all mid new
+
+-- why one does not: the user may not give them, or out of memory
+abbrev pub GetsNotIts : Access → Filed → Why → Type 0
+GetsNotIts a old why = (reason : Refusal) × (why ≡ Request reason) × IsWhyNotGiven old a.file reason
+
+-- these receive theirs, in order, up to one that does not
+abbrev pub StopsGivingTheirs : List Access → Filed → Filed → Failure → Type 0
+StopsGivingTheirs [] old new failure = ⊥
+StopsGivingTheirs (a ∷ all) old new failure =
+    (HasPath failure (string_bytes a.path) × (new ≡ old) × GetsNotIts a old failure.why)
+    ⊎ ((mid : Filed) × HasGiven old a.file a.owner a.protection mid × StopsGivingTheirs all mid new failure)

@@ -39,6 +39,7 @@ pub mod Kept
 pub mod Before
 pub mod Wayside
 pub mod Untarred
+pub mod DirectoryUntarred
 pub mod Ready
 pub mod CopiedFrom
 pub mod UncopiedFrom

@@ -1,10 +1,11 @@
 //! `chmod` and `chown` give files another protection word, or another owner.
 ghost use Rattle.std.specs.Prelude.{◌≡◌, Some, None, IfErr, OnErr, OnOk};
-ghost use Rattle.ods_upkeep.specs.Given.{AreGiven, AreNotGiven, GetAccess, GetsAccess, GetsNone, StopsGiving};
+ghost use Rattle.ods_filing.specs.Amended.{HasGiven};
+ghost use Rattle.ods_upkeep.specs.Given.{AreGiven, AreNotGiven, GetAccess, GetTheirs, GetsAccess, GetsNone, GetsNotIts, StopsGiving, StopsGivingTheirs};
 
 use crate::failure::{Failure, Why, of_path};
 use crate::sources::sources;
-use ods_base::Uic;
+use ods_base::{FileId, Uic};
 use ods_filing::Filing;
 use ods_shell::{Alone, Found, PathFault, Unsaid};
 use std::alloc::Global;
@@ -94,6 +95,46 @@ fn give_one(
         return Err(Why::Path(PathFault::NoSuchFile));
     };
     match filing.set_access(facts.file, owner, protection) {
+        Ok(()) => Ok(()),
+        Err(refusal) => Err(Why::Request(refusal)),
+    }
+}
+
+/// The owner and the protection that a file receives.
+#[derive(Drop)]
+pub struct Access {
+    /// Its path, which a failure reports.
+    pub path: String,
+    /// The file.
+    pub file: FileId,
+    /// Its owner, if it receives one.
+    pub owner: Option<Uic>,
+    /// Its protection word, if it receives one.
+    pub protection: Option<u16>,
+}
+
+/// Gives each of these files its own owner and protection, in order. The required rights are as in `give_protection`.
+pub fn give_access(alloc: Global, filing: &mut Filing, all: &[Access]) -> Result<(), Failure>
+    // Done, each file has what it receives, and nothing else was done.
+    ensures done { OnOk result (GetTheirs all.now filing.old filing.new) }
+    // Refused, it is so for a reason that holds, and of the path that the failure says. Those before it have theirs.
+    ensures refused { IfErr result (StopsGivingTheirs all.now filing.old filing.new) }
+{
+    for access in all {
+        if let Err(why) = give_its(filing, access) {
+            return Err(of_path(alloc, access.path.as_str(), why));
+        }
+    }
+    Ok(())
+}
+
+/// Gives a file its owner and its protection.
+fn give_its(filing: &mut Filing, access: &Access) -> Result<(), Why>
+    ensures done { OnOk result (HasGiven filing.old access.now.file access.now.owner access.now.protection filing.new) }
+    ensures refused { IfErr result (GetsNotIts access.now filing.old) }
+    ensures unchanged { OnErr result (filing.new ≡ filing.old) }
+{
+    match filing.set_access(access.file, access.owner, access.protection) {
         Ok(()) => Ok(()),
         Err(refusal) => Err(Why::Request(refusal)),
     }

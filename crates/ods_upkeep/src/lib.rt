@@ -39,6 +39,7 @@ mod targets;
 mod tree_names;
 mod truncating;
 mod untarring;
+mod untarring_directories;
 mod versions;
 mod written;
 
@@ -49,7 +50,7 @@ pub use copying_from::copy_from;
 pub use copying_tree::copy_tree_from;
 pub use directories::{is_below_another, make_directories, remove_directories};
 pub use failure::{Failure, Why};
-pub use giving::{give_owner, give_protection};
+pub use giving::{Access, give_access, give_owner, give_protection};
 pub use laws::{
     append_puts_behind, copied_is_there, copied_tree_is_there, copies_are_there, copy_is_there,
     get_gives_what_was_put, kept_comes_back, leaf_comes_back, mv_there_and_back, rm_undoes_put,
@@ -65,3 +66,4 @@ pub use removing::remove_files;
 pub use tree_names::judge_path;
 pub use truncating::truncate_file;
 pub use untarring::{Packed, untar_file};
+pub use untarring_directories::{PackedDirectory, untar_directory};

@@ -77,8 +77,8 @@ fn make_step(
     make_there(alloc, filing, stamp, way.as_str())
 }
 
-/// Whether a part names nothing.
-fn names_nothing(part: &str) -> bool
+/// Returns whether a part names nothing.
+pub(crate) fn names_nothing(part: &str) -> bool
     ensures { result ≡ names_nothing_of part.now }
 {
     match part.as_bytes() {
@@ -89,7 +89,7 @@ fn names_nothing(part: &str) -> bool
 }
 
 /// Lengthens a way by a part.
-fn push_part(way: &mut String, part: &str) -> Result<(), AllocError>
+pub(crate) fn push_part(way: &mut String, part: &str) -> Result<(), AllocError>
     ensures { OnOk result (string_bytes way.new ≡ with_part (string_bytes way.old) part.now) }
 {
     if !way.is_empty() {
@@ -117,8 +117,12 @@ pub(crate) fn make_there(
     }
 }
 
-/// The directory of a path; `None` where there is none.
-fn find_directory(alloc: Global, volume: &Mounted, path: &str) -> Result<Option<FileId>, Why>
+/// Returns the directory of a path, or `None` if there is none.
+pub(crate) fn find_directory(
+    alloc: Global,
+    volume: &Mounted,
+    path: &str,
+) -> Result<Option<FileId>, Why>
     ensures { MatchResult result (λ found. MatchOption found (IsFreeAt volume.now.image volume.now.layout path.now) (IsDirectoryAt volume.now.image volume.now.layout path.now))
         (IsNoFolder volume.now.image volume.now.layout path.now) }
 {

@@ -1,20 +1,16 @@
-use Rattle.std.proofs.Common.{refl, subst, sym}
 use Rattle.std.specs.Prelude.{is_some, not}
-use Rattle.std.proofs.lemmas.List.{drop_all}
-use Rattle.f11fs.specs.Unpacked.{ArePutFrom}
-use Rattle.f11fs.proofs.Unpacking.{files_on}
+use Rattle.f11fs.proofs.Unpacking.{along_all, along_next, along_none}
 use Rattle.f11fs.proofs.untarring.put_all.Goals as goal
 
 pub loop-one-init : goal.loop-one-init
-loop-one-init c = λ new rest. rest
+loop-one-init c = along_none (not (is_some c.args.times.now.zone)) c.args.directory c.args.times.now.run c.args.wanted.now c.args.filing.now c.args.due.now.items
 
 pub loop-one-preserved : goal.loop-one-preserved
 loop-one-preserved c =
-    files_on (not (is_some c.args.times.now.zone)) c.args.directory c.args.times.now.run c.args.wanted.now c.loop-one.one-index _ c.loop-one.filing _
-    (λ new. ArePutFrom (not (is_some c.args.times.now.zone)) c.args.directory c.args.times.now.run c.args.wanted.now c.args.filing.now new)
+    along_next (not (is_some c.args.times.now.zone)) c.args.directory c.args.times.now.run c.args.wanted.now c.loop-one.one-index _ c.args.filing.now c.loop-one.filing _ c.args.due.now.items c.loop-one.due.items _
     c.loop-one-test.true c.loop-one.invariant c.in_ok-put_one.ensures.done
 
 pub returns-clause-done : goal.returns-clause-done
 returns-clause-done c =
-    c.loop-one.invariant c.loop-one.filing
-    (subst (λ l. ArePutFrom (not (is_some c.args.times.now.zone)) c.args.directory c.args.times.now.run l c.loop-one.filing c.loop-one.filing) (sym (drop_all c.loop-one.one-index _ c.loop-one-test.false)) refl)
+    along_all (not (is_some c.args.times.now.zone)) c.args.directory c.args.times.now.run c.args.wanted.now c.loop-one.one-index c.args.filing.now c.loop-one.filing c.args.due.now.items c.loop-one.due.items
+    c.loop-one-test.false c.loop-one.invariant

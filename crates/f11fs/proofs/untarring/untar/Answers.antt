@@ -7,5 +7,7 @@ use Rattle.f11fs.proofs.untarring.untar.Goals as goal
 
 pub returns-clause-done : goal.returns-clause-done
 returns-clause-done g c =
-    all_untarred (is_some c.args.words.now.stamp) (is_some c.read_where.result) c.args.words.now.paths.items c.directory_among-directory.result c.args.stamp _ _ c.args.filing.now c.make_ready.new.filing c.put_all.new.filing c.put_all.result
-    (c.is_none.ensures ∙ ap not (sym c.read_where.ensures)) (c.directory_among-directory.ensures ∙ ap directory_among c.as_slice-2.ensures.value) (subst (AsksFor _) (sym c.as_slice-files.ensures.value) c.in-Ok-members_in.ensures.ok) c.make_ready.ensures c.put_all.ensures.done
+    all_untarred (is_some c.args.words.now.stamp) (is_some c.read_where.result) c.args.words.now.paths.items c.directory_among-directory.result c.args.stamp _ _ c.args.filing.now c.make_ready.new.filing c.put_and_give.new.filing
+    c.put_and_give.result
+    (c.is_none.ensures ∙ ap not (sym c.read_where.ensures)) (c.directory_among-directory.ensures ∙ ap directory_among c.as_slice-2.ensures.value) (subst (AsksFor _) (sym c.as_slice-files.ensures.value) c.in-Ok-members_in.ensures.ok)
+    c.make_ready.ensures c.put_and_give.ensures.done
