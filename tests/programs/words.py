@@ -98,6 +98,26 @@ class Words(Disk):
         volume = self.volume()
         assert "[NEW]" in volume.directories and "[1,2]P.TXT;1" in volume.paths, "both changes"
 
+    def test_other_image_in_a_pipe_is_read_before_the_lock(self) -> None:
+        os.mkfifo(self.folder / "pipe")
+        self.write({"todo": b"cp --from pipe '[1,2]NOTES.TXT' /\n"})
+        other = self.image.read_bytes()
+        for directory, words in ("ONE", ("cp", "--from", "pipe", "[1,2]NOTES.TXT", "/")), ("TWO", ("-f", "todo")):
+            waits = subprocess.Popen([self.program, "--stamp", STAMP, "disk", *words], cwd=self.folder, stdin=subprocess.DEVNULL, stderr=subprocess.PIPE)
+            try:
+                pipe = opened(self.folder / "pipe", waits)
+                os.set_blocking(pipe, True)
+                with open(pipe, "wb") as writer:
+                    self.does("--stamp", STAMP, "disk", "mkdir", directory)
+                    writer.write(other)
+                _, err = waits.communicate(timeout=60)
+            finally:
+                waits.kill()
+            self.assertEqual((waits.returncode, err), (0, b""), "the cp")
+            volume = self.volume()
+            assert f"[{directory}]" in volume.directories and "[0,0]NOTES.TXT;1" in volume.paths, "both changes"
+            self.does("disk", "rm", "[0,0]NOTES.TXT;1")
+
     def test_a_file_of_commands_that_look_takes_no_lock(self) -> None:
         looks = b"ls -i [1,2]NOTES.TXT\nstat 1,2/NOTES.TXT # of a refused volume too\ncheck\n"
         self.write({"todo": looks, "more": looks + b"mkdir NEW\n"})

@@ -11,9 +11,11 @@ use Rattle.fs_reads.specs.declared.stop.Stop.TheVariants as stop
 use Rattle.fs_reads.specs.declared.stop.WordFault.TheVariants as word
 use Rattle.fs_words.specs.declared.actions.Action.{Action}
 use Rattle.fs_words.specs.declared.actions.Action.TheVariants as action
+use Rattle.fs_words.specs.declared.actions.FromWords.{FromWords}
 use Rattle.fs_words.specs.declared.actions.PutWords.{PutWords}
 use Rattle.fs_words.specs.declared.actions.Change.TheVariants as change
 use Rattle.f11fs.specs.declared.early.Early.{Early}
+use Rattle.f11fs.specs.declared.early.OtherImage.{OtherImage}
 use Rattle.f11fs.specs.declared.early.Taken.{Taken}
 
 -- the name is the part after the last slash of a path, or the whole path without a slash
@@ -24,14 +26,19 @@ IsLastPart path name = LacksSlash name × ((path ≡ name) ⊎ ((folder : List �
 abbrev pub first_at : List ℕ → List Taken → Option ℕ
 first_at path taken = position (λ one. bytes_eq (string_bytes one.path) path) taken
 
--- nothing is read early for another command than a put, an append or an untar
+-- the index of the first image read from this path
+abbrev pub first_image : List ℕ → List OtherImage → Option ℕ
+first_image path images = position (λ one. bytes_eq (string_bytes one.path) path) images
+
+-- nothing is read early for another command than a put, an append, an untar or a cp --from
 abbrev pub ReadsNothing : Action → Type 0
-ReadsNothing asked = ((how : PutWords) → asked ≢ action.Change (change.Put how)) × (asked ≢ action.Change change.Append) × (asked ≢ action.Change change.Untar)
+ReadsNothing asked =
+    ((how : PutWords) → asked ≢ action.Change (change.Put how)) × (asked ≢ action.Change change.Append) × (asked ≢ action.Change change.Untar) × ((how : FromWords) → asked ≢ action.Change (change.CpFrom how))
 
 -- A file was read to the end, after the files that were read before, which reduces the room for later reads. If there was no room, nothing was read.
 abbrev pub AddsReading : List ℕ → Early → Early → Type 0
 AddsReading path old new = MatchOption old.room (new ≡ old) (λ room.
-    (one : Taken) × (new.taken.items ≡ old.taken.items ++ one ∷ []) × (string_bytes one.path ≡ path)
+    (one : Taken) × (new.taken.items ≡ old.taken.items ++ one ∷ []) × (string_bytes one.path ≡ path) × (new.images ≡ old.images)
     × IfOk one.bytes (λ bytes. (vec_len bytes ≤ room) × (new.room ≡ Some (room - vec_len bytes))) × IfErr one.bytes (λ _. new.room ≡ Some room))
 
 -- Such a file was read, or nothing was.
@@ -42,6 +49,14 @@ MayAddReading path old new = (new ≡ old) ⊎ AddsReading path old new
 abbrev pub MayAddReadings : List (Bor (List ℕ)) → Early → Early → Type 0
 MayAddReadings [] old new = new ≡ old
 MayAddReadings (path ∷ paths) old new = (mid : Early) × MayAddReading path.now old mid × MayAddReadings paths mid new
+
+-- the other image of a cp was read from this path, after the images that were read before, and nothing else was read
+abbrev pub AddsImage : List ℕ → Early → Early → Type 0
+AddsImage path old new = (one : OtherImage) × (new.images.items ≡ old.images.items ++ one ∷ []) × (string_bytes one.path ≡ path) × (new.taken ≡ old.taken) × (new.room ≡ old.room)
+
+-- It was read, or nothing was.
+abbrev pub MayAddImage : List ℕ → Early → Early → Type 0
+MayAddImage path old new = (new ≡ old) ⊎ AddsImage path old new
 
 -- there is no room for the bytes of this file
 abbrev pub IsTooLarge : Bor (List ℕ) → ℕ → Stop → Type 0

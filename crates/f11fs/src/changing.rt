@@ -296,7 +296,7 @@ pub fn change_volume<'a, R: Host>(
     match change {
         Change::Put(how) => put_files(rt, filing, stamp, words, how, early),
         Change::Untar => untar(rt, filing, stamp, words, early),
-        Change::CpFrom(how) => copy_from_image(rt, filing, stamp, words, how),
+        Change::CpFrom(how) => copy_from_image(rt, filing, stamp, words, how, early),
         Change::Cp { contiguous } => match paths.split_last() {
             Some((to, paths)) => end_change(
                 alloc,

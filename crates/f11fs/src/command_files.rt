@@ -12,7 +12,7 @@ use crate::host::Host;
 use crate::lines::{say_bad_line, say_bad_words, say_no_memory, say_wrong};
 use crate::looking::{look_all, only_look};
 use crate::version::VERSION;
-use fs_host::{Collecting, HostFault, Noting};
+use fs_host::{Collecting, HostFault, Noting, most_printed};
 use fs_reads::{
     Progress, Stop, WordFault, check_image, info_image, obey, say_end, show_space,
     stop_at_own_output,
@@ -66,6 +66,7 @@ pub fn obey_file<'a, R: Host>(
         file,
         keep_going,
         behind: locked.behind().len() as u64,
+        most: most_printed(volume.image().len()),
     };
     let (status, done) = obey_text(rt, &run, &printed, volume, text, &mut early)?;
     let Some(filing) = done else {
@@ -92,6 +93,8 @@ struct Run<'r, 'a> {
     keep_going: bool,
     /// How many bytes come past the volume.
     behind: u64,
+    /// How many bytes the commands may print.
+    most: usize,
 }
 
 /// The bytes of a file of commands, or of standard input.
@@ -206,6 +209,7 @@ fn obey_lines<R: Host>(
         let one = Collecting {
             rt,
             printed,
+            most: run.most,
             file: run.file,
             line: number,
         };

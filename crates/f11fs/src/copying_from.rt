@@ -1,13 +1,16 @@
 //! `cp --from`: copies files of another image, which a mount may refuse, into the volume.
-ghost use Rattle.std.specs.Prelude.{◌≡◌, IfErr, OnOk, is_some};
-ghost use Rattle.f11fs.specs.{Changed.IsRefusal, CopiedOver.CopiesBelow, CopiedOver.CopiesOver, CopiedOver.CopiesTreeOver, CopiedOver.copying_said, CopiedOver.reader_for};
+ghost use Rattle.std.specs.Prelude.{◌≡◌, ℕ, IfErr, IfOk, OnOk, Some, is_some, slice_get};
+ghost use Rattle.fs_reads.specs.Readable.{IsReadableOf};
+ghost use Rattle.f11fs.specs.{Changed.IsRefusal, CopiedOver.CopiesBelow, CopiedOver.CopiesOver, CopiedOver.CopiesTreeOver, CopiedOver.copying_said, CopiedOver.reader_for, Readings.first_image};
+ghost use Rattle.f11fs.specs.declared.early.OtherImage.{OtherImage as AnImage};
 
 use crate::changing::stop_failed;
+use crate::early::Early;
 use crate::putting::placing_for;
-use fs_host::Layers;
-use fs_reads::{Readable, Stop, WordFault, open_readable, stop_about};
+use fs_host::{Extent, Layers};
+use fs_reads::{Readable, Stop, VolumeFault, WordFault, open_image, readable_of, stop_about};
 use fs_words::{FromWords, Words};
-use ods_base::Uic;
+use ods_base::{Image, Uic};
 use ods_filing::Filing;
 use ods_request::{Refusal, Stamp};
 use ods_shell::Status;
@@ -24,14 +27,15 @@ pub fn copy_from_image<'a, R: Files<File = File> + AllocGlobal + Eprint>(
     stamp: Stamp,
     words: &Words<'a>,
     how: FromWords<'a>,
+    early: &mut Early,
 ) -> Result<(), Stop<'a>>
     ensures done { OnOk result (CopiesBelow how.entry.below (is_some words.now.user) how.entry.contiguous how.entry.next words.now.paths.items stamp filing.old filing.new) }
     ensures refused { IfErr result IsRefusal }
 {
     if how.below {
-        return copy_tree_over(rt, filing, stamp, words, how.from, how.contiguous, how.next);
+        return copy_tree_over(rt, filing, stamp, words, how, early);
     }
-    copy_over(rt, filing, stamp, words, how.from, how.contiguous, how.next)
+    copy_over(rt, filing, stamp, words, how, early)
 }
 
 /// Copies the files that the words but the last find on the volume of another image to the last one. Why a mount refuses that image is said, and where
@@ -41,19 +45,22 @@ fn copy_over<'a, R: Files<File = File> + AllocGlobal + Eprint>(
     filing: &mut Filing,
     stamp: Stamp,
     words: &Words<'a>,
-    image: &'a str,
-    contiguous: Option<bool>,
-    next: bool,
+    how: FromWords<'a>,
+    early: &mut Early,
 ) -> Result<(), Stop<'a>>
-    ensures done { OnOk result (CopiesOver (is_some words.now.user) contiguous next words.now.paths.items stamp filing.old filing.new) }
+    ensures done { OnOk result (CopiesOver (is_some words.now.user) how.entry.contiguous how.entry.next words.now.paths.items stamp filing.old filing.new) }
     ensures refused { IfErr result IsRefusal }
 {
     let Some((to, paths)) = words.paths.as_slice().split_last() else {
         return Err(Stop::Lines(String::new(rt.alloc()), Status::Words));
     };
-    let opened = open_other(rt, image)?;
+    let opened = open_other(rt, how.from, early)?;
     let user = filing.user();
-    let how = how_to_copy(reader_for(words.user.is_some(), user), contiguous, next);
+    let how = how_to_copy(
+        reader_for(words.user.is_some(), user),
+        how.contiguous,
+        how.next,
+    );
     let disk = opened.disk();
     match copy_from(rt.alloc(), filing, &disk, stamp, how, paths, *to) {
         Ok(()) => Ok(()),
@@ -68,11 +75,10 @@ fn copy_tree_over<'a, R: Files<File = File> + AllocGlobal + Eprint>(
     filing: &mut Filing,
     stamp: Stamp,
     words: &Words<'a>,
-    image: &'a str,
-    contiguous: Option<bool>,
-    next: bool,
+    how: FromWords<'a>,
+    early: &mut Early,
 ) -> Result<(), Stop<'a>>
-    ensures done { OnOk result (CopiesTreeOver (is_some words.now.user) contiguous next words.now.paths.items stamp filing.old filing.new) }
+    ensures done { OnOk result (CopiesTreeOver (is_some words.now.user) how.entry.contiguous how.entry.next words.now.paths.items stamp filing.old filing.new) }
     ensures refused { IfErr result IsRefusal }
 {
     let Some((to, paths)) = words.paths.as_slice().split_last() else {
@@ -84,9 +90,13 @@ fn copy_tree_over<'a, R: Files<File = File> + AllocGlobal + Eprint>(
     if others.len() > 0 {
         return Err(Stop::Word(*path, WordFault::OneDirectory));
     }
-    let opened = open_other(rt, image)?;
+    let opened = open_other(rt, how.from, early)?;
     let user = filing.user();
-    let how = how_to_copy(reader_for(words.user.is_some(), user), contiguous, next);
+    let how = how_to_copy(
+        reader_for(words.user.is_some(), user),
+        how.contiguous,
+        how.next,
+    );
     let disk = opened.disk();
     match copy_tree_from(rt.alloc(), filing, &disk, stamp, how, *path, *to) {
         Ok(()) => Ok(()),
@@ -98,10 +108,28 @@ fn copy_tree_over<'a, R: Files<File = File> + AllocGlobal + Eprint>(
 fn open_other<'a, R: Files<File = File> + AllocGlobal + Eprint>(
     rt: &R,
     image: &'a str,
+    early: &mut Early,
 ) -> Result<Readable, Stop<'a>>
-    ensures { IfErr result IsRefusal }
+    // What was read early is copied from.
+    ensures early { (place : ℕ) (one : AnImage) → first_image image.entry.now early.old.images.items ≡ Some place → slice_get early.old.images.items place ≡ Some one → IfOk result (λ volume. IsReadableOf one.opened volume) }
+    ensures err { IfErr result IsRefusal }
 {
-    open_readable(rt, image, None, Layers::Found, false)
+    let opened = taken_or_opened(rt, image, early);
+    readable_of(rt, image, opened, false)
+}
+
+/// The other image, if it was read early; otherwise it is read now.
+fn taken_or_opened<R: Files<File = File> + AllocGlobal>(
+    rt: &R,
+    path: &str,
+    early: &mut Early,
+) -> Result<(Image, Option<Extent>), VolumeFault>
+    ensures { (place : ℕ) (one : AnImage) → first_image path.now early.old.images.items ≡ Some place → slice_get early.old.images.items place ≡ Some one → result ≡ one.opened }
+{
+    match early.take_image(path) {
+        Some(opened) => opened,
+        None => open_image(rt, path, None, Layers::Found),
+    }
 }
 
 /// Whose rights are checked on the other volume: those of the user in force, if the words specify one. Otherwise it is read without rights.

@@ -1,16 +1,17 @@
-//! Host files that are not plain files, such as pipes and standard input. `put`, `append` and `untar` read them before the image is locked, so that
-//! nobody waits under the lock.
+//! Host files that are not plain files, such as pipes and standard input. `put`, `append`, `untar` and `cp --from` read them before the image is
+//! locked, so that nobody waits under the lock.
 ghost use Rattle.std.specs.Prelude.{◌≡◌, ◌<◌, ◌≤◌, ◌-◌, ◌∷◌, ◌++◌, ◌⊎◌, ℕ, [], MatchOption, None, Some, IfErr, IfOk, IfSome, IsTrue, MatchResult, OnOk, drop, length, min, slice_get, vec_len};
 ghost use Rattle.fs_host.specs.Faults.{is_reason};
 ghost use Rattle.std.specs.List.{remove};
-ghost use Rattle.f11fs.specs.{Changed.host_count, Changed.hosts_among, Readings.AddsReading, Readings.MayAddReading, Readings.MayAddReadings, Readings.ReadsNothing, Readings.first_at};
+ghost use Rattle.f11fs.specs.{Changed.host_count, Changed.hosts_among, Readings.AddsImage, Readings.AddsReading, Readings.MayAddImage, Readings.MayAddReading, Readings.MayAddReadings, Readings.ReadsNothing, Readings.first_at, Readings.first_image};
+ghost use Rattle.f11fs.specs.declared.early.OtherImage.{OtherImage as AnImage};
 ghost use Rattle.f11fs.specs.declared.early.Taken.{Taken as Read};
 
 use crate::untarring::archive_among;
-use fs_host::{HostFault, read_host, read_some};
-use fs_reads::Stop;
+use fs_host::{Extent, HostFault, Layers, read_host, read_some};
+use fs_reads::{Stop, VolumeFault, open_image};
 use fs_words::{Action, Change, Words};
-use ods_base::MAX_BYTES;
+use ods_base::{Image, MAX_BYTES};
 use std::alloc::AllocError;
 use std::fs;
 use std::fs::File;
@@ -24,10 +25,18 @@ struct Taken {
     bytes: Result<Vec<u8>, HostFault>,
 }
 
+/// What was read of the other image of a `cp`.
+#[derive(Drop)]
+struct OtherImage {
+    path: String,
+    opened: Result<(Image, Option<Extent>), VolumeFault>,
+}
+
 /// The contents that were read early, in the order of the words.
 #[derive(Drop)]
 pub struct Early {
     taken: Vec<Taken>,
+    images: Vec<OtherImage>,
     /// How many bytes may still be read: in total the length of the image file, or the largest image size if it is not a plain file.
     /// For an archive, `archive_room` raises the limit. None if there is no image.
     room: Option<u64>,
@@ -36,10 +45,12 @@ pub struct Early {
 impl Early {
     /// Returns an empty store for the image at this path.
     pub fn of<R: Files + AllocGlobal>(rt: &R, image: &str) -> Early
-        ensures { result.taken.items ≡ [] }
+        ensures taken { result.taken.items ≡ [] }
+        ensures images { result.images.items ≡ [] }
     {
         Early {
             taken: Vec::new(rt.alloc()),
+            images: Vec::new(rt.alloc()),
             room: match fs::metadata(rt, image) {
                 Ok(found) if found.is_file() => Some(found.len()),
                 Ok(_) => Some(MAX_BYTES as u64),
@@ -48,7 +59,8 @@ impl Early {
         }
     }
 
-    /// Reads the sources of a `put`, an `append` or an `untar` that are not plain files. The reason of a failure is kept for that command.
+    /// Reads the sources of a `put`, an `append` or an `untar` that are not plain files, and the other image of a `cp`. The reason of a failure is kept
+    /// for that command.
     pub fn read_words<'a, R: Files<File = File> + Input + AllocGlobal>(
         &mut self,
         rt: &R,
@@ -66,6 +78,7 @@ impl Early {
                 self.room = archive_room(self.room);
                 self.read_stream(rt, archive_among(words.paths.as_slice()))
             }
+            Action::Change(Change::CpFrom(how)) => self.read_image(rt, how.from),
             _ => Ok(()),
         }
     }
@@ -115,6 +128,44 @@ impl Early {
         Ok(push_taken(&mut self.taken, Taken { path, bytes })?)
     }
 
+    /// Reads the other image of a `cp`, if it is not a plain file.
+    fn read_image<'a, R: Files<File = File> + AllocGlobal>(
+        &mut self,
+        rt: &R,
+        path: &str,
+    ) -> Result<(), Stop<'a>>
+        ensures { OnOk result (MayAddImage path.now self.old self.new) }
+    {
+        if is_stream(rt, path) {
+            return self.add_image(rt, path);
+        }
+        Ok(())
+    }
+
+    /// Reads another image.
+    fn add_image<'a, R: Files<File = File> + AllocGlobal>(
+        &mut self,
+        rt: &R,
+        path: &str,
+    ) -> Result<(), Stop<'a>>
+        ensures { OnOk result (AddsImage path.now self.old self.new) }
+    {
+        let opened = open_image(rt, path, None, Layers::Found);
+        let path = String::from_str(rt.alloc(), path)?;
+        Ok(push_image(&mut self.images, OtherImage { path, opened })?)
+    }
+
+    /// Removes and returns the first unused image that was read early from this path.
+    pub fn take_image(&mut self, path: &str) -> Option<Result<(Image, Option<Extent>), VolumeFault>>
+        ensures none { first_image path.now self.old.images.items ≡ None → (result ≡ None) × (self.new ≡ self.old) }
+        ensures some { (place : ℕ) (one : AnImage) → first_image path.now self.old.images.items ≡ Some place → slice_get self.old.images.items place ≡ Some one → (result ≡ Some one.opened) × (self.new.images.items ≡ remove self.old.images.items place) }
+    {
+        match image_at(self.images.as_slice(), path) {
+            Some(place) => Some(self.images.remove(place).opened),
+            None => None,
+        }
+    }
+
     /// Removes and returns the first unused contents of a host file that were read early.
     pub fn take(&mut self, path: &str) -> Option<Result<Vec<u8>, HostFault>>
         ensures none { first_at path.now self.old.taken.items ≡ None → (result ≡ None) × (self.new ≡ self.old) }
@@ -154,6 +205,24 @@ fn place_at(taken: &[Taken], path: &str) -> Option<usize>
     ensures within { IfSome result (λ place. place < length taken.now) }
 {
     taken.iter().position(|one| one.path.as_str() == path)
+}
+
+/// Adds what was read of another image.
+fn push_image(images: &mut Vec<OtherImage>, one: OtherImage) -> Result<(), AllocError>
+    ensures { OnOk result (images.new.items ≡ images.old.items ++ one ∷ []) }
+{
+    match images.push(one) {
+        Ok(()) => Ok(()),
+        Err(_) => Err(AllocError),
+    }
+}
+
+/// The place of the first image that was read from this path.
+fn image_at(images: &[OtherImage], path: &str) -> Option<usize>
+    ensures first { result ≡ first_image path.now images.now }
+    ensures within { IfSome result (λ place. place < length images.now) }
+{
+    images.iter().position(|one| one.path.as_str() == path)
 }
 
 /// Returns the bytes of a host file, or of standard input, if there are no more than `most`.

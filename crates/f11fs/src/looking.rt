@@ -14,7 +14,7 @@ use crate::host::Host;
 use crate::lines::{say_bad_line, say_bad_words, say_wrong};
 use crate::orders::layers_of;
 use crate::version::VERSION;
-use fs_host::Collecting;
+use fs_host::{Collecting, most_printed};
 use fs_reads::{Progress, Readable, Stop, check_image, info_image, obey, open_readable, say_end};
 use fs_words::{Action, LineFault, Words, WordsFault, line_words, parse_line};
 use ods_shell::Status;
@@ -69,6 +69,7 @@ pub fn look_all<'a, R: Host>(
     let layers = layers_of(words.order);
     let volume = open_readable(rt, words.image, words.blocks, layers, false)?;
     let printed = RefCell::new(Vec::new(rt.alloc()));
+    let most = most_printed(volume.disk().image.len());
     let mut status = Status::Done;
     let mut number = 0usize;
     for line in text.lines() {
@@ -76,6 +77,7 @@ pub fn look_all<'a, R: Host>(
         let one = Collecting {
             rt,
             printed: &printed,
+            most,
             file,
             line: number,
         };

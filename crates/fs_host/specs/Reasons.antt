@@ -1,5 +1,5 @@
 -- The reason of an error of the host: by its kind, or by its number if the kind does not determine it.
-use Rattle.std.specs.Prelude.{◌≡◌, ℤ, pos, negsuc, ◌==◌, ◌⊎◌, Option, Some, None, unwrap_or, if◌then◌else◌, ◌||◌}
+use Rattle.std.specs.Prelude.{◌≡◌, ◌<◌, ◌+◌, ◌*◌, ◌^◌, ℕ, max, ℤ, pos, negsuc, ◌==◌, ◌⊎◌, Option, Some, None, unwrap_or, if◌then◌else◌, ◌||◌}
 use Rattle.std.specs.IoError.{error_kind, raw_os_error}
 use Rattle.std.specs.declared.io.Error.{Error}
 use Rattle.std.specs.declared.io.ErrorKind.{ErrorKind}
@@ -40,6 +40,14 @@ reason_of_number (Some (pos n)) =
 abbrev pub reason_of : Error → HostFault
 reason_of error = unwrap_or (reason_of_kind (error_kind error)) (reason_of_number (raw_os_error error))
 
--- the output is not kept: memory is refused, or it is being read
+-- the output is not kept: memory is refused, it is being read, or it exceeds the limit
 abbrev pub IsNotKept : Error → Type 0
-IsNotKept error = (error_kind error ≡ OutOfMemory) ⊎ (error_kind error ≡ KindOther)
+IsNotKept error = (error_kind error ≡ OutOfMemory) ⊎ ((error_kind error ≡ KindOther) ⊎ (error_kind error ≡ FileTooLarge))
+
+-- why so many bytes are not added to so many: memory is refused, or there are more than `most` then
+abbrev pub IsNotAdded : ℕ → ℕ → ℕ → Error → Type 0
+IsNotAdded before more most error = (error_kind error ≡ OutOfMemory) ⊎ ((error_kind error ≡ FileTooLarge) × (most < before + more))
+
+-- how many bytes the commands in a file may print, on a volume of so many blocks: 64 times its bytes, and at least 64 MiB
+abbrev pub most_printed : ℕ → ℕ
+most_printed blocks = max (blocks * (64 * 512)) (64 * 2 ^ 20)

@@ -1,7 +1,7 @@
-//! A runtime for one command of several. Its output is kept until the end of the run, and its faults state the line of the command. Most methods
-//! forward a call. No contract of std states what these calls do, nor what a cell holds.
-ghost use Rattle.std.specs.Prelude.{IfErr};
-ghost use Rattle.fs_host.specs.Reasons.{IsNotKept};
+//! A runtime for one command of several. Its output is kept until the end of the run, up to a limit, and its faults state the line of the command.
+//! Most methods forward a call. No contract of std states what these calls do, nor what a cell holds.
+ghost use Rattle.std.specs.Prelude.{◌≡◌, ◌≤◌, ◌++◌, IfErr, OnOk, length};
+ghost use Rattle.fs_host.specs.Reasons.{IsNotAdded, IsNotKept, most_printed as most_for};
 
 use crate::shown::Shown;
 use std::alloc::Allocator;
@@ -15,12 +15,24 @@ use std::path::PathBuf;
 use std::rt::{Clock, Env, Files};
 use std::time::Duration;
 
+/// The least limit on the output of the commands in a file: 64 MiB.
+const LEAST: usize = 67_108_864;
+
+/// Returns how many bytes the commands in a file may print, on a volume of so many blocks: 64 times the bytes of the volume, and at least 64 MiB.
+pub fn most_printed(blocks: u32) -> usize
+    ensures { result ≡ most_for blocks }
+{
+    (blocks as usize).saturating_mul(64 * 512).max(LEAST)
+}
+
 /// A runtime for the command in this line of a file.
 #[derive(Clone, Copy)]
 pub struct Collecting<'a, R> {
     pub rt: &'a R,
     /// The printed bytes.
     pub printed: &'a RefCell<Vec<u8>>,
+    /// How many bytes may be printed by all commands of the file.
+    pub most: usize,
     pub file: &'a str,
     pub line: usize,
 }
@@ -44,10 +56,21 @@ impl<R: AllocGlobal> Print for Collecting<'_, R> {
         ensures { IfErr result IsNotKept }
     {
         match self.printed.try_borrow_mut() {
-            Ok(mut printed) => Ok(printed.extend_from_slice(bytes)?),
+            Ok(mut printed) => add_printed(&mut printed, bytes, self.most),
             Err(_) => Err(io::Error::from(io::ErrorKind::Other)),
         }
     }
+}
+
+/// Adds printed bytes, if there are no more than `most` then.
+fn add_printed(printed: &mut Vec<u8>, bytes: &[u8], most: usize) -> io::Result<()>
+    ensures ok { OnOk result ((printed.new.items ≡ printed.old.items ++ bytes.now) × (length printed.new.items ≤ most)) }
+    ensures err { IfErr result (IsNotAdded (length printed.old.items) (length bytes.now) most) }
+{
+    if most < bytes.len() || most - bytes.len() < printed.len() {
+        return Err(io::Error::from(io::ErrorKind::FileTooLarge));
+    }
+    Ok(printed.extend_from_slice(bytes)?)
 }
 
 impl<R: Eprint> Eprint for Collecting<'_, R> {

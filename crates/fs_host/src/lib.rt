@@ -34,7 +34,7 @@ mod watch;
 mod whole_blocks;
 mod writing;
 
-pub use collecting::Collecting;
+pub use collecting::{Collecting, most_printed};
 pub use containers::Extent;
 pub use faults::{SaveFault, Unfinished};
 pub use floppies::{Floppy, write_ordered};

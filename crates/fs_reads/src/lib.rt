@@ -46,9 +46,10 @@ pub use informing::{behind_by, info, info_image};
 pub use looks::{Look, looks_like};
 pub use obeying::{obey, show_space};
 pub use progress::Progress;
-pub use readable::{Readable, open_readable};
+pub use readable::{Readable, open_readable, readable_of};
 pub use rescuing::rescue;
 pub use stop::{Stop, WordFault, say_end, send, stop_about, stop_at_own_output};
 pub use volume::{
-    VolumeFault, image_of, lacks_blocks, open_volume, say_extent, stop_unread, volume_of,
+    VolumeFault, image_of, lacks_blocks, open_image, open_volume, say_extent, stop_unread,
+    volume_of,
 };

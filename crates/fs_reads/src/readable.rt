@@ -1,14 +1,14 @@
 //! The volume of an image that is read, sound or not. A command goes on if the home block and INDEXF.SYS locate files.
 ghost use Rattle.std.specs.Prelude.{◌≡◌, ◌≢◌, IfErr, IfOk};
 ghost use Rattle.ods_mount.specs.Faults.{FaultIsTrue};
-ghost use Rattle.fs_reads.specs.{Readable.IsJudged, Readable.LacksLayout, Readable.Opened, Volumes.IsNoVolume};
+ghost use Rattle.fs_reads.specs.{Readable.IsJudged, Readable.IsReadableOf, Readable.LacksLayout, Readable.Opened, Volumes.IsNoVolume};
 ghost use Rattle.fs_reads.specs.declared.volume.VolumeFault.{VolumeFault as Fault};
 
 use crate::informing::behind_by;
 use crate::passed_over::say_passed_over;
 use crate::stop::{Stop, say_end};
 use crate::volume::{VolumeFault, no_volume, not_mounted, open_image, say_extent};
-use fs_host::Layers;
+use fs_host::{Extent, Layers};
 use ods_base::Image;
 use ods_mount::{MountFault, Mounted, mount, readable_layout};
 use ods_shell::Status;
@@ -95,7 +95,21 @@ pub fn open_readable<'a, R: Files<File = File> + AllocGlobal + Eprint>(
 ) -> Result<Readable, Stop<'a>>
     ensures { IfErr result (λ stop. (fault : Fault) × IsNoVolume path.entry fault stop) }
 {
-    match open_image(rt, path, given, layers) {
+    readable_of(rt, path, open_image(rt, path, given, layers), tells_behind)
+}
+
+/// Returns the volume of an image that `open_image` has read from this path, or the fault of that image as the end of the command. Prints what
+/// `open_readable` prints.
+pub fn readable_of<'a, R: Files<File = File> + AllocGlobal + Eprint>(
+    rt: &R,
+    path: &'a str,
+    opened: Result<(Image, Option<Extent>), VolumeFault>,
+    tells_behind: bool,
+) -> Result<Readable, Stop<'a>>
+    ensures ok { IfOk result (λ volume. IsReadableOf opened volume) }
+    ensures err { IfErr result (λ stop. (fault : Fault) × IsNoVolume path.entry fault stop) }
+{
+    match opened {
         Ok((image, extent)) => {
             say_extent(rt, path, extent, tells_behind);
             let mut volume = make_readable(rt, path, image)?;

@@ -68,7 +68,7 @@ impl VolumeFault {
 /// Reads the volume in the image at this path, and returns it with the remark on an image that is longer or shorter. The volume has `given` blocks, if
 /// that is a number, and its sectors are in the order of `layers`. If the image ends before a block of a file, only the blocks that it has are returned.
 #[tactic(auto, using(crate::proofs::Mounting::not_opened))]
-pub(crate) fn open_image<R: Files<File = File> + AllocGlobal>(
+pub fn open_image<R: Files<File = File> + AllocGlobal>(
     rt: &R,
     path: &str,
     given: Option<u32>,

@@ -172,6 +172,30 @@ pub(crate) fn tell<S: AsStr>(
 {
     match error.kind() {
         ErrorKind::DisplayHelp => Ok(WordsFault::Help(help(alloc, words, version)?)),
+        ErrorKind::UnknownArgument => Ok(WordsFault::Wrong(unknown_line(alloc, error)?)),
         _ => tell_error(alloc, error),
     }
+}
+
+/// The line that reports a word which the command does not take. For an option it has the nearest one, if clap finds one, and names `--help`.
+fn unknown_line(alloc: Global, error: &Error) -> Result<String, AllocError> {
+    let text = format!(in alloc; "{error}")?;
+    let mut lines = text.as_str().lines();
+    let line = lines.next().unwrap_or("error: a word is unknown");
+    if !line.starts_with("error: unexpected argument '-") {
+        return Ok(String::from_str(alloc, line)?);
+    }
+    match near_option(text.as_str()) {
+        Some(near) => {
+            format!(in alloc; "{line}; did you mean '{near}'? --help lists the options")
+        }
+        None => format!(in alloc; "{line}; --help lists the options"),
+    }
+}
+
+/// The option that is near to an unknown one, in the text of an error of clap.
+fn near_option(text: &str) -> Option<&str> {
+    let (_, behind) = text.split_once("tip: a similar argument exists: '")?;
+    let (near, _) = behind.split_once("'")?;
+    Some(near)
 }

@@ -8,11 +8,11 @@ use Rattle.ods_paths.specs.Patterns.{capitals}
 use Rattle.ods_filing.specs.Filed.{Filed}
 use Rattle.ods_upkeep.specs.Before.{IsBefore}
 use Rattle.ods_upkeep.specs.HostNames.{IsNoName, IsTyped, IsUntyped, title_of, type_of}
-use Rattle.ods_upkeep.specs.HostPut.{IsFormFor, IsFormOf}
-use Rattle.ods_upkeep.specs.Kept.{IsKept}
+use Rattle.ods_upkeep.specs.HostPut.{IsFormFor, IsFormOf, IsFormerFor, IsFormerOf}
+use Rattle.ods_upkeep.specs.Kept.{IsKept, IsNotKept}
 use Rattle.ods_upkeep.specs.Left.{InPut, replaced_version}
 use Rattle.ods_upkeep.specs.Refused.{no_memory}
-use Rattle.ods_upkeep.specs.Remarks.{AreSeen, IsRemarkOn}
+use Rattle.ods_upkeep.specs.Remarks.{AreSeen, IsRemarkOn, changed_from}
 use Rattle.ods_upkeep.specs.Target.{IsNoName as SpellsNone}
 use Rattle.ods_upkeep.specs.Unput.{IsNoHostName, IsNotPut, IsNotStored, MayBeCalled, no_name, unread, unremarked, unspelled, unstored, untyped}
 use Rattle.ods_upkeep.specs.Written.{IsWritten}
@@ -46,10 +46,11 @@ pub not_put_of : (why : Why) {p q : InPut} (host bytes : List ℕ) (old new : Fi
 not_put_of why host bytes old new same none = subst (λ v. IsNotPut v host bytes old new why) same none
 
 -- something is to be remarked, and there is no memory for it
-pub remark_fails : (why : Why) (p : InPut) (host bytes : List ℕ) (f : Filed) (name : RadName) (chosen : PutForm) (own : Option (List ℕ)) (attributes stored : List ℕ) (completed : Bool) (near : Option NearText) → MayBeCalled p host name
-    → IsFormOf p name bytes f chosen own → IsWritten chosen own bytes attributes stored → AreSeen chosen own bytes completed near → (why ≡ no_memory) × ¬ IsRemarkOn completed near None → IsNotPut p host bytes f f why
-remark_fails why p host bytes f name chosen own attributes stored completed near may formed written seen none =
-    subst (IsNotPut p host bytes f f) (sym none.0) (unremarked name chosen own attributes stored completed near may formed written seen none.1 refl)
+pub remark_fails : (why : Why) (p : InPut) (host bytes : List ℕ) (f : Filed) (name : RadName) (chosen : PutForm) (own former : Option (List ℕ)) (attributes stored : List ℕ) (completed : Bool) (near : Option NearText) → MayBeCalled p host name
+    → IsFormOf p name bytes f chosen own → IsFormerOf p name bytes f former → IsWritten chosen own bytes attributes stored → AreSeen chosen own bytes completed near
+    → (why ≡ no_memory) × ¬ IsRemarkOn (changed_from former attributes) completed near None → IsNotPut p host bytes f f why
+remark_fails why p host bytes f name chosen own former attributes stored completed near may formed left written seen none =
+    subst (IsNotPut p host bytes f f) (sym none.0) (unremarked name chosen own former attributes stored completed near may formed left written seen none.1 refl)
 
 -- the names of the directory are not read
 pub form_fails : (why : Why) (p : InPut) (host bytes : List ℕ) (f : Filed) (name : RadName) → MayBeCalled p host name → (why ≡ no_memory) × (p.keeps ≡ true) → IsNotPut p host bytes f f why
@@ -71,4 +72,16 @@ form_kept keeps form like dir name names said picked bytes f I L before chosen o
       subst (λ (J : List (List ℕ)). IsBefore J f.layout dir.number name (replaced_version names said) before) image
           (subst (λ (M : VolumeLayout). IsBefore I M dir.number name (replaced_version names said) before) layout (subst (λ (o : Option ℕ). IsBefore I L dir.number name o before) picks found)),
       kept,
+    )
+
+-- the form that is not kept is that of the version before, as the blocks show it
+pub former_kept : (keeps : Bool) (dir : FileId) (name : RadName) (names : Option (List ℕ)) (said picked : Option ℕ) (bytes : List ℕ) (f : Filed) (I : List (List ℕ)) (L : VolumeLayout)
+    (before former : Option (List ℕ)) → keeps ≡ true → I ≡ f.image → L ≡ f.layout → picked ≡ replaced_version names said → IsBefore I L dir.number name picked before → IsNotKept before bytes former
+    → IsFormerFor keeps dir name names said bytes f former
+former_kept keeps dir name names said picked bytes f I L before former is image layout picks found left =
+    subst (λ (b : Bool). IsFormerFor b dir name names said bytes f former) (sym is) (
+      before,
+      subst (λ (J : List (List ℕ)). IsBefore J f.layout dir.number name (replaced_version names said) before) image
+          (subst (λ (M : VolumeLayout). IsBefore I M dir.number name (replaced_version names said) before) layout (subst (λ (o : Option ℕ). IsBefore I L dir.number name o before) picks found)),
+      left,
     )

@@ -8,7 +8,7 @@ use Rattle.ods_filing.specs.Filed.{Filed}
 use Rattle.ods_upkeep.specs.Before.{IsBefore}
 use Rattle.ods_upkeep.specs.Counted.{one_more}
 use Rattle.ods_upkeep.specs.HostNames.{IsNameFor}
-use Rattle.ods_upkeep.specs.Kept.{IsKept}
+use Rattle.ods_upkeep.specs.Kept.{IsKept, IsNotKept}
 use Rattle.ods_upkeep.specs.Left.{InPut, replaced_version, replaces}
 use Rattle.ods_upkeep.specs.Looked.{IsNextVersion}
 use Rattle.ods_upkeep.specs.PutFor.{IsMadeFor, IsProtected}
@@ -79,6 +79,16 @@ IsFormFor true form like dir name names said bytes old chosen own =
 abbrev pub IsFormOf : InPut → RadName → List ℕ → Filed → PutForm → Option (List ℕ) → Type 0
 IsFormOf p name bytes old chosen own = IsFormFor p.keeps p.form p.like p.target.directory name p.names p.target.version bytes old chosen own
 
+-- The attributes of the version before, if files keep their form and the form of that version is not kept.
+abbrev pub IsFormerFor : Bool → FileId → RadName → Option (List ℕ) → Option ℕ → List ℕ → Filed → Option (List ℕ) → Type 0
+IsFormerFor false dir name names said bytes old former = former ≡ None
+IsFormerFor true dir name names said bytes old former =
+    (before : Option (List ℕ)) × IsBefore old.image old.layout dir.number name (replaced_version names said) before × IsNotKept before bytes former
+
+-- the same, for a file that is put under this name
+abbrev pub IsFormerOf : InPut → RadName → List ℕ → Filed → Option (List ℕ) → Type 0
+IsFormerOf p name bytes old former = IsFormerFor p.keeps p.target.directory name p.names p.target.version bytes old former
+
 -- A host file of this name and these bytes has been put. Its name on the volume is the given one, or its own, and not of the type DIR. Its form gives
 -- attributes and bytes.
 pub record IsHostPut (p : InPut) (host bytes : List ℕ) (old : Filed) (q : InPut) (new : Filed) : Type 0 where
@@ -93,7 +103,7 @@ pub record IsHostPut (p : InPut) (host bytes : List ℕ) (old : Filed) (q : InPu
   pub written : IsWritten chosen own bytes attributes stored
   pub put : IsPutAs p name attributes stored old q new
 
--- the remark on the host file, in the form that it has
+-- the remark on the host file, in the form that it has, and on a form that is not kept
 abbrev pub IsRemarkFor : InPut → List ℕ → List ℕ → Filed → Option (String Global) → Type 0
 IsRemarkFor p host bytes old remark =
-    (name : RadName) × IsNameFor p.target.name host name × ((chosen : PutForm) × ((own : Option (List ℕ)) × IsFormOf p name bytes old chosen own × IsRemark chosen own bytes remark))
+    (name : RadName) × IsNameFor p.target.name host name × ((chosen : PutForm) × ((own former : Option (List ℕ)) × IsFormOf p name bytes old chosen own × IsFormerOf p name bytes old former × IsRemark chosen own former bytes remark))

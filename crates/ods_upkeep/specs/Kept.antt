@@ -49,3 +49,8 @@ IsKept (Some own) bytes chosen like =
     (StayBytes own bytes × (chosen ≡ form.Binary) × (like ≡ Some own))
     ⊎ (((¬ StayBytes own bytes) × StayLines own bytes × (chosen ≡ form.ByContents) × (like ≡ Some own))
     ⊎ ((¬ StayBytes own bytes) × (¬ StayLines own bytes) × (chosen ≡ form.ByContents) × (like ≡ None)))
+
+-- the attributes of the version before, if there is one and its form is not kept
+abbrev pub IsNotKept : Option (List ℕ) → List ℕ → Option (List ℕ) → Type 0
+IsNotKept None bytes former = former ≡ None
+IsNotKept (Some own) bytes former = ((StayBytes own bytes ⊎ StayLines own bytes) × (former ≡ None)) ⊎ ((¬ StayBytes own bytes) × (¬ StayLines own bytes) × (former ≡ Some own))

@@ -10,12 +10,12 @@ use Rattle.ods_request.specs.declared.requests.Request.TheVariants.{Remove}
 use Rattle.ods_filing.specs.Filed.{Filed}
 use Rattle.ods_filing.specs.Put.{Heading}
 use Rattle.ods_upkeep.specs.HostNames.{IsNameFor, IsNoName, IsTyped, IsUntyped, title_of, type_of}
-use Rattle.ods_upkeep.specs.HostPut.{IsFormOf, IsVersionFor}
+use Rattle.ods_upkeep.specs.HostPut.{IsFormOf, IsFormerOf, IsVersionFor}
 use Rattle.ods_upkeep.specs.Left.{InPut}
 use Rattle.ods_upkeep.specs.Looked.{IsSeen}
 use Rattle.ods_upkeep.specs.PutFor.{IsMadeFor, IsProtected, IsUnprotected}
 use Rattle.ods_upkeep.specs.Refused.{StopsAt, no_memory}
-use Rattle.ods_upkeep.specs.Remarks.{AreSeen, IsRemarkOn}
+use Rattle.ods_upkeep.specs.Remarks.{AreSeen, IsRemarkOn, changed_from}
 use Rattle.ods_upkeep.specs.Rooms.{IsNotPlain, IsRoomMade, IsThere, counts_left, file_left, pick_for}
 use Rattle.ods_upkeep.specs.Target.{IsNoName as SpellsNone}
 use Rattle.ods_upkeep.specs.Unfiled.{IsUnfiled}
@@ -91,7 +91,8 @@ pub data IsNotPut (p : InPut) (host bytes : List ℕ) (old new : Filed) : Why �
   unread : (name : RadName) → MayBeCalled p host name → p.keeps ≡ true → new ≡ old → IsNotPut p host bytes old new no_memory
   unwritten : (why : Why) (name : RadName) (chosen : PutForm) (own : Option (List ℕ)) → MayBeCalled p host name → IsFormOf p name bytes old chosen own → IsUnwritten chosen own bytes why → new ≡ old
       → IsNotPut p host bytes old new why
-  unremarked : (name : RadName) (chosen : PutForm) (own : Option (List ℕ)) (attributes stored : List ℕ) (completed : Bool) (near : Option NearText) → MayBeCalled p host name → IsFormOf p name bytes old chosen own
-      → IsWritten chosen own bytes attributes stored → AreSeen chosen own bytes completed near → ¬ IsRemarkOn completed near None → new ≡ old → IsNotPut p host bytes old new no_memory
+  unremarked : (name : RadName) (chosen : PutForm) (own former : Option (List ℕ)) (attributes stored : List ℕ) (completed : Bool) (near : Option NearText) → MayBeCalled p host name → IsFormOf p name bytes old chosen own
+      → IsFormerOf p name bytes old former → IsWritten chosen own bytes attributes stored → AreSeen chosen own bytes completed near → ¬ IsRemarkOn (changed_from former attributes) completed near None → new ≡ old
+      → IsNotPut p host bytes old new no_memory
   unstored : (why : Why) (name : RadName) (chosen : PutForm) (own : Option (List ℕ)) (attributes stored : List ℕ) → MayBeCalled p host name → IsFormOf p name bytes old chosen own
       → IsWritten chosen own bytes attributes stored → IsNotStored p name attributes stored old new why → IsNotPut p host bytes old new why

@@ -4,7 +4,7 @@ ghost use Rattle.ods_space.specs.Disks.{on};
 ghost use Rattle.ods_space.specs.Files.{FindsFiles};
 ghost use Rattle.ods_records.specs.Attributes.{kind_in};
 ghost use Rattle.ods_upkeep.specs.Before.{AreOfPick, IsBefore, IsPicked, pick_of};
-ghost use Rattle.ods_upkeep.specs.Kept.{has_no_form as no_form, AreRaw, AreRawRecords, IsKept, StayBytes, StayLines};
+ghost use Rattle.ods_upkeep.specs.Kept.{has_no_form as no_form, AreRaw, AreRawRecords, IsKept, IsNotKept, StayBytes, StayLines};
 
 use crate::PutForm;
 use crate::attributes::are_zeros;
@@ -90,20 +90,25 @@ fn attributes_of(disk: &Disk<'_>, picked: &Option<Listed>) -> Option<[u8; 32]>
     Some(facts.attributes)
 }
 
-/// Returns the form of a file, and the attributes that it gets, after a version with these attributes.
-pub(crate) fn kept_form(before: &Option<[u8; 32]>, bytes: &[u8]) -> (PutForm, Option<[u8; 32]>)
-    ensures { IsKept before.now bytes.now result.0 result.1 }
+/// Returns the form of a file, and the attributes that it gets, after a version with these attributes. The third part is these attributes, if their
+/// form is not kept.
+pub(crate) fn kept_form(
+    before: &Option<[u8; 32]>,
+    bytes: &[u8],
+) -> (PutForm, Option<[u8; 32]>, Option<[u8; 32]>)
+    ensures kept { IsKept before.now bytes.now result.0 result.1 }
+    ensures former { IsNotKept before.now bytes.now result.2 }
 {
     let Some(own) = before else {
-        return (PutForm::ByContents, None);
+        return (PutForm::ByContents, None, None);
     };
     if stay_bytes(own, bytes) {
-        return (PutForm::Binary, Some(*own));
+        return (PutForm::Binary, Some(*own), None);
     }
     if stay_lines(own, bytes) {
-        return (PutForm::ByContents, Some(*own));
+        return (PutForm::ByContents, Some(*own), None);
     }
-    (PutForm::ByContents, None)
+    (PutForm::ByContents, None, Some(*own))
 }
 
 /// Whether the lines of these bytes are extracted again from records of this form.

@@ -1,12 +1,14 @@
 //! `put`: puts files of the host one by one.
 ghost use Rattle.std.specs.Prelude.{◌≡◌, is_some, not, ◌&&◌, false, true, None, IfErr, IfOk, MatchResult, OnErr, OnOk};
+ghost use Rattle.std.specs.String.{string_bytes};
 ghost use Rattle.ods_upkeep.specs.{Begun.AreKept, Begun.AreNames, Begun.IsBegun, Begun.count_of, Begun.keeps_form, Begun.path_to};
-ghost use Rattle.ods_upkeep.specs.{HostPut.AreCountedOn, HostPut.AreNotedOn, HostPut.IsFormFor, HostPut.IsHostPut, HostPut.IsPutAs, HostPut.IsRemarkFor, HostPut.IsStill, HostPut.IsVersionFor};
+ghost use Rattle.ods_upkeep.specs.{HostPut.AreCountedOn, HostPut.AreNotedOn, HostPut.IsFormFor, HostPut.IsFormerFor, HostPut.IsHostPut, HostPut.IsPutAs, HostPut.IsRemarkFor, HostPut.IsStill, HostPut.IsVersionFor};
 ghost use Rattle.ods_upkeep.specs.declared.asked.Placing.TheVariants.{Anywhere};
-ghost use Rattle.ods_upkeep.specs.{Left.at_time, Left.replaced_version, Left.replaces, Legs.IsPutLed, PutFor.IsProtected, PutFor.IsPut, PutFor.IsUnprotected, Refused.HasPath, Refused.IsOutOfMemory, Refused.no_memory, Remarks.IsRemarkOn};
+ghost use Rattle.ods_upkeep.specs.{Left.at_time, Left.replaced_version, Left.replaces, Legs.IsPutLed, PutFor.IsProtected, PutFor.IsPut, PutFor.IsUnprotected, Refused.HasPath, Refused.IsOutOfMemory, Refused.no_memory, Remarks.BeginsChanged, Remarks.IsRemarkOn, Remarks.changed_from as changed_from_it, Remarks.is_same_form as same_form};
 ghost use Rattle.ods_upkeep.specs.{Unbegun.IsNotBegun, Unput.IsNotPut, Unput.IsNotStored, Written.bytes_of};
 
 use crate::asking::put_new;
+use crate::attributes::are_zeros;
 use crate::failure::{Failure, Why, of_path};
 use crate::host_names::name_for;
 use crate::keeping::{attributes_before, kept_form};
@@ -22,7 +24,7 @@ use crate::{HostFile, Placing, PutForm};
 use ods_base::{DIRECTORY_TYPE, FileId, Name, Uic};
 use ods_filing::{Filing, NewFile};
 use ods_mount::Mounted;
-use ods_records::NearText;
+use ods_records::{NearText, print_form};
 use ods_request::Stamp;
 use std::alloc::Global;
 use std::marker::Model;
@@ -162,7 +164,7 @@ impl Putting {
         if name.ext() == DIRECTORY_TYPE {
             return Err(Why::DirectoryType);
         }
-        let (form, like) = form_for(
+        let (form, like, former) = form_for(
             alloc,
             filing,
             self.keeps,
@@ -175,7 +177,7 @@ impl Putting {
             host.bytes,
         )?;
         let written = write_host(alloc, form, &like, host.bytes)?;
-        let remark = remark(alloc, &written)?;
+        let remark = remark(alloc, &written, &former)?;
         self.put_written(alloc, filing, name, &written)?;
         Ok(remark)
     }
@@ -253,7 +255,8 @@ fn replaced_version(names: &Option<Names>, said: Option<u16>) -> Option<u16>
     }
 }
 
-/// The form in which a file is put, and the attributes of its model file: those that are said, or those that it keeps of the version before.
+/// The form in which a file is put, and the attributes of its model file: those that are said, or those that it keeps of the version before. The third
+/// part is the attributes of that version, if its form is not kept.
 fn form_for(
     alloc: Global,
     filing: &Filing,
@@ -265,12 +268,13 @@ fn form_for(
     names: &Option<Names>,
     said: Option<u16>,
     bytes: &[u8],
-) -> Result<(PutForm, Option<[u8; 32]>), Why>
+) -> Result<(PutForm, Option<[u8; 32]>, Option<[u8; 32]>), Why>
     ensures ok { IfOk result (λ r. IsFormFor keeps form like.now dir name.now names.now said bytes.now filing.now r.0 r.1) }
+    ensures former { IfOk result (λ r. IsFormerFor keeps dir name.now names.now said bytes.now filing.now r.2) }
     ensures err { IfErr result (λ why. (why ≡ no_memory) × (keeps ≡ true)) }
 {
     if !keeps {
-        return Ok((form, *like));
+        return Ok((form, *like, None));
     }
     let disk = filing.disk();
     let said = replaced_version(names, said);
@@ -365,9 +369,76 @@ fn note_version(highest: &mut Option<Highest>, name: &Name, version: u16) -> Res
     Ok(())
 }
 
-/// What is to be remarked of a file that was put.
-fn remark(alloc: Global, written: &Written<'_>) -> Result<Option<String>, Why>
-    ensures { MatchResult result (IsRemarkOn written.now.is_completed written.now.near) (λ why. (why ≡ no_memory) × ¬ IsRemarkOn written.now.is_completed written.now.near None) }
+/// What is to be remarked of a file that was put, after a version with the former attributes, if the form of one is not kept.
+fn remark(
+    alloc: Global,
+    written: &Written<'_>,
+    former: &Option<[u8; 32]>,
+) -> Result<Option<String>, Why>
+    ensures { MatchResult result (IsRemarkOn (changed_from_it former.now written.now.attributes) written.now.is_completed written.now.near)
+        (λ why. (why ≡ no_memory) × ¬ IsRemarkOn (changed_from_it former.now written.now.attributes) written.now.is_completed written.now.near None) }
+{
+    match changed_from(former, &written.attributes) {
+        Some(former) => {
+            let text = remark_on_change(alloc, &former, written)?;
+            Ok(Some(text))
+        }
+        None => remark_on_bytes(alloc, written),
+    }
+}
+
+/// The attributes of the version before, if they state a form and the file has another one.
+fn changed_from(former: &Option<[u8; 32]>, attributes: &[u8; 32]) -> Option<[u8; 32]>
+    ensures { result ≡ changed_from_it former.now attributes.now }
+{
+    let Some(former) = former else {
+        return None;
+    };
+    if are_zeros(former) || is_same_form(former, attributes) {
+        return None;
+    }
+    Some(*former)
+}
+
+/// Whether attributes state the same record type and the same carriage control.
+fn is_same_form(former: &[u8; 32], attributes: &[u8; 32]) -> bool
+    ensures { result ≡ same_form former.now attributes.now }
+{
+    former[0] % 16 == attributes[0] % 16 && former[1] % 16 == attributes[1] % 16
+}
+
+/// The remark on a form that has changed, and on the bytes.
+fn remark_on_change(alloc: Global, former: &[u8; 32], written: &Written<'_>) -> Result<String, Why>
+    ensures ok { IfOk result (λ text. BeginsChanged (string_bytes text)) }
+    ensures err { IfErr result (λ why. why ≡ no_memory) }
+{
+    let more = text_behind(alloc, written)?;
+    let from = print_form(&front(former));
+    let to = print_form(&front(&written.attributes));
+    let forms = format!(in alloc; "{from} to {to}{more}")?;
+    let mut text = String::from_str(alloc, "the form changed from ")?;
+    text.push_str(forms.as_str())?;
+    Ok(text)
+}
+
+/// The first four bytes of attributes.
+fn front(attributes: &[u8; 32]) -> [u8; 4] {
+    [attributes[0], attributes[1], attributes[2], attributes[3]]
+}
+
+/// The remark on the bytes as it comes behind another one.
+fn text_behind(alloc: Global, written: &Written<'_>) -> Result<String, Why>
+    ensures { IfErr result (λ why. why ≡ no_memory) }
+{
+    match remark_on_bytes(alloc, written)? {
+        Some(text) => Ok(format!(in alloc; "; {text}")?),
+        None => Ok(String::new(alloc)),
+    }
+}
+
+/// What is to be remarked of the bytes of a file that was put.
+fn remark_on_bytes(alloc: Global, written: &Written<'_>) -> Result<Option<String>, Why>
+    ensures { MatchResult result (IsRemarkOn None written.now.is_completed written.now.near) (λ why. (why ≡ no_memory) × ¬ IsRemarkOn None written.now.is_completed written.now.near None) }
 {
     if written.is_completed {
         let text = String::from_str(alloc, "the last line has no LF, and became a record")?;

@@ -7,6 +7,6 @@ use Rattle.f11fs.specs.Changed.{IsRefusal}
 use Rattle.f11fs.proofs.Opened.{no_volume_refusal}
 use Rattle.f11fs.proofs.copying_from.open_other.Goals as goal
 
-pub returns : goal.returns
-returns g c =
-    IfErr-weaker c.open_readable.result (λ (end : Stop). (why : VolumeFault) × IsNoVolume c.args.image why end) IsRefusal (λ end told. no_volume_refusal c.args.image told.0 end told.1) c.open_readable.ensures
+pub returns-clause-err : goal.returns-clause-err
+returns-clause-err g c =
+    IfErr-weaker c.readable_of.result (λ (end : Stop). (why : VolumeFault) × IsNoVolume c.args.image why end) IsRefusal (λ end told. no_volume_refusal c.args.image told.0 end told.1) c.readable_of.ensures.err

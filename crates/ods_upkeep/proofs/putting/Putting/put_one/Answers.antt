@@ -33,8 +33,8 @@ returns-in_err-remark-clause-refused c =
     let written = c.in_ok-written.written in
     let p = err_from_is_err_and c.from_residual-in_err-remark.result c.from_residual-in_err-remark.ensures.1 in
     rw (p.1, p.2) (not_put_of _ c.args.host.now.name.now c.args.host.now.bytes.now c.args.filing.now c.args.filing.now c.self.view_is
-    (remark_fails _ _ c.args.host.now.name.now c.args.host.now.bytes.now c.args.filing.now c.in_ok-name.name c.in_ok-form.form c.in_ok-form.like written.attributes (bytes_of written) written.is_completed written.near
-    (record { named = c.in_ok-name.ensures; plain = λ is. c.if-ext-eq-DIRECTORY_TYPE.false (c.ext.ensures.value ∙ is) }) c.in_ok-form.ensures.ok c.in_ok-written.ensures.ok c.in_ok-written.ensures.seen c.in_err-remark.ensures))
+    (remark_fails _ _ c.args.host.now.name.now c.args.host.now.bytes.now c.args.filing.now c.in_ok-name.name c.in_ok-form.form c.in_ok-form.like c.in_ok-form.former written.attributes (bytes_of written) written.is_completed written.near
+    (record { named = c.in_ok-name.ensures; plain = λ is. c.if-ext-eq-DIRECTORY_TYPE.false (c.ext.ensures.value ∙ is) }) c.in_ok-form.ensures.ok c.in_ok-form.ensures.former c.in_ok-written.ensures.ok c.in_ok-written.ensures.seen c.in_err-remark.ensures))
 
 pub returns-in_err-put_written-clause-refused : goal.returns-in_err-put_written-clause-refused
 returns-in_err-put_written-clause-refused c =
