@@ -5,7 +5,7 @@ ghost use Rattle.f11fs.specs.Saved.{IsSavedStatus};
 use crate::changing::say_unfinished;
 use crate::host::Host;
 use crate::orders::{layers_of, new_order};
-use fs_host::{Extent, HostFault, Layered, layered_in, read_some, write_ordered};
+use fs_host::{Extent, HostFault, layered_in, read_some, write_ordered};
 use fs_reads::{Stop, WordFault, lacks_blocks, stop_about, stop_unread};
 use fs_words::{Layering, Words};
 use ods_shell::Status;
@@ -34,30 +34,32 @@ pub fn convert_image<'a, R: Host>(
         Err(error) => return Err(unread(path, HostFault::of(&error))),
     };
     let layers = layers_of(words.order);
-    let Layered { contained, floppy } = match layered_in(
-        rt.alloc(),
-        &mut file,
-        words.blocks,
-        layers,
-    ) {
+    let read = match layered_in(rt.alloc(), &mut file, words.blocks, layers) {
         Ok(read) => read,
         Err(fault) => return Err(stop_unread(rt, path, fault)),
     };
+    let is_floppy = read.floppy.is_some();
+    let mut contained = read.contained;
     if lacks_blocks(rt.alloc(), &contained.image, Extent::of(&contained))? {
         return Err(Stop::Word(path, WordFault::Lacking));
     }
-    if !alone && floppy.is_some() {
+    if !alone && is_floppy {
         let held = u64::from(contained.image.len())
             .saturating_mul(512)
             .saturating_add(contained.behind.len() as u64);
         check_track(rt, path, held)?;
     }
-    let behind = if alone {
-        &[]
-    } else {
-        contained.behind.as_slice()
-    };
-    match write_ordered(rt, *out, &contained.image, behind, new_order(order, None)) {
+    if alone {
+        contained.behind.clear();
+    }
+    let order = new_order(order, None);
+    match write_ordered(
+        rt,
+        *out,
+        &contained.image,
+        contained.behind.as_slice(),
+        order,
+    ) {
         Ok(wanting) => Ok(say_unfinished(rt, *out, wanting)),
         Err(fault) => Err(Stop::Word(*out, WordFault::Unsaved(fault))),
     }
