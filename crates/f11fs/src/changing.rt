@@ -31,8 +31,8 @@ use ods_mount::Mounted;
 use ods_request::Stamp;
 use ods_shell::Status;
 use ods_upkeep::{
-    Failure, Removal, copy_files, give_owner, give_protection, is_below_another, make_directories,
-    make_ready, move_names, purge_files, remove_directories, remove_files,
+    Failure, Placing, Removal, copy_files, give_owner, give_protection, is_below_another,
+    make_directories, make_ready, move_names, purge_files, remove_directories, remove_files,
 };
 use std::alloc::{AllocError, Global};
 
@@ -347,7 +347,7 @@ fn make_all<'a>(
     ensures done { OnOk result (MakesAll owner names stamp paths.now filing.old filing.new) }
     ensures refused { IfErr result IsRefusal }
 {
-    make_ready(filing, paths.len());
+    make_ready(filing, paths.len(), Placing::Anywhere);
     match make_directories(alloc, filing, stamp, paths, names, owner) {
         Ok(()) => Ok(()),
         Err(failure) => Err(stop_failed(alloc, &failure)),

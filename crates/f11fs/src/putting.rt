@@ -13,7 +13,7 @@ use fs_reads::{Stop, WordFault};
 use fs_words::{PutWords, Words};
 use ods_filing::Filing;
 use ods_request::Stamp;
-use ods_upkeep::{HostFile, Placing, PutForm, Putting, make_ready};
+use ods_upkeep::{HostFile, Placing, PutForm, Putting};
 use std::fs;
 use std::fs::File;
 use std::rt::Files;
@@ -52,7 +52,7 @@ pub fn put<'a, R: Host>(
         Ok(putting) => putting,
         Err(failure) => return Err(stop_failed(rt.alloc(), &failure)),
     };
-    make_ready(filing, hosts.len());
+    putting.make_ready(filing, hosts.len());
     let zone = HostZone::read_where(rt, takes_times(&how, words.stamp));
     put_each(
         rt,

@@ -64,7 +64,7 @@ fn put_tree<'a, R: Host>(
     };
     let kept = judge_tree(rt, folder, listed, skip, words.quiet)?;
     let entries = kept.as_slice();
-    make_ready(filing, entries.len());
+    make_ready(filing, entries.len(), Placing::Anywhere);
     let dir = match tree_root(rt.alloc(), filing, stamp, to) {
         Ok(dir) => dir,
         Err(failure) => return Err(stop_failed(rt.alloc(), &failure)),

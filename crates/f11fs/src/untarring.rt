@@ -52,7 +52,7 @@ pub fn untar<'a, R: Host>(
         Err(fault) => return Err(stop_asked(alloc, archive, bytes.as_slice(), fault)),
     };
     let files = wanted.as_slice();
-    make_ready(filing, files.len());
+    make_ready(filing, files.len(), Placing::Anywhere);
     let times = Times {
         run: stamp,
         zone: HostZone::read_where(rt, words.stamp.is_none()),

@@ -56,7 +56,7 @@ pub fn copy_files(
     )?;
     let target = target_of(alloc, filing.mounted(), all.len(), to)?;
     check_all(alloc, &all, &target, Some(filing.user()))?;
-    make_ready(filing, all.len());
+    make_ready(filing, all.len(), placing);
     copy_all(alloc, filing, placing, &all, &target, stamp)
 }
 

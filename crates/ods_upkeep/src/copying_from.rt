@@ -9,7 +9,7 @@ ghost use Rattle.ods_upkeep.specs.CopiedFrom.{AreAllCopiedOver, AreCopiedOver, A
 ghost use Rattle.ods_upkeep.specs.UncopiedFrom.{AreAllPassed, AreNoFilesFrom, AreNotCopiedOver, HasTwinned, IsNotCopiedFrom, IsNotCopiedOver, IsTwinned, StopsCopyingOver, passed_why};
 ghost use Rattle.ods_upkeep.specs.declared.asked.Placing.TheVariants.{Anywhere};
 
-use crate::asked::CopyFrom;
+use crate::asked::{CopyFrom, Placing};
 use crate::copying::{bytes_on, check, check_all, make_copy};
 use crate::failure::{Failure, Why, of_path};
 use crate::like_files::placing_like;
@@ -66,7 +66,11 @@ pub(crate) fn copy_each(
     ensures refused { IfErr result (on AreNotCopiedOver other.now how.now target.now stamp files.now filing.old filing.new) }
 {
     check_all(alloc, files, target, how.reader)?;
-    make_ready(filing, files.len());
+    make_ready(
+        filing,
+        files.len(),
+        how.placing.unwrap_or(Placing::Anywhere),
+    );
     copy_all_over(alloc, filing, other, how, files, target, stamp)
 }
 

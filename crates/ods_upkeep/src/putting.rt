@@ -4,7 +4,7 @@ ghost use Rattle.std.specs.String.{string_bytes};
 ghost use Rattle.ods_upkeep.specs.{Begun.AreKept, Begun.AreNames, Begun.IsBegun, Begun.count_of, Begun.keeps_form, Begun.path_to};
 ghost use Rattle.ods_upkeep.specs.{HostPut.AreCountedOn, HostPut.AreNotedOn, HostPut.IsFormFor, HostPut.IsFormerFor, HostPut.IsHostPut, HostPut.IsPutAs, HostPut.IsRemarkFor, HostPut.IsStill, HostPut.IsVersionFor};
 ghost use Rattle.ods_upkeep.specs.declared.asked.Placing.TheVariants.{Anywhere};
-ghost use Rattle.ods_upkeep.specs.{Left.at_time, Left.replaced_version, Left.replaces, Legs.IsPutLed, PutFor.IsProtected, PutFor.IsPut, PutFor.IsUnprotected, Refused.HasPath, Refused.IsOutOfMemory, Refused.no_memory, Remarks.BeginsChanged, Remarks.IsRemarkOn, Remarks.changed_from as changed_from_it, Remarks.is_same_form as same_form};
+ghost use Rattle.ods_upkeep.specs.{Left.at_time, Left.replaced_version, Left.replaces, Legs.IsPutLed, PutFor.IsProtected, PutFor.IsPut, PutFor.IsUnprotected, Ready.MayHaveGrown, Refused.HasPath, Refused.IsOutOfMemory, Refused.no_memory, Remarks.BeginsChanged, Remarks.IsRemarkOn, Remarks.changed_from as changed_from_it, Remarks.is_same_form as same_form};
 ghost use Rattle.ods_upkeep.specs.{Unbegun.IsNotBegun, Unput.IsNotPut, Unput.IsNotStored, Written.bytes_of};
 
 use crate::asking::put_new;
@@ -15,6 +15,7 @@ use crate::keeping::{attributes_before, kept_form};
 use crate::like_files::{attributes_in, like_facts, placing_by};
 use crate::looking::next_version;
 use crate::names::Names;
+use crate::readying::make_ready;
 use crate::rooms::make_room;
 use crate::target::Target;
 use crate::targets::target_of;
@@ -92,6 +93,13 @@ impl Putting {
             names,
             highest,
         })
+    }
+
+    /// Requests the headers of `files` files, before the first of them is put.
+    pub fn make_ready(&self, filing: &mut Filing, files: usize)
+        ensures { MayHaveGrown files filing.old filing.new }
+    {
+        make_ready(filing, files, self.placing);
     }
 
     /// Sets the date and time of creation of the files that are put from now on.

@@ -2,17 +2,18 @@
 ghost use Rattle.std.specs.Prelude.{◌≡◌};
 ghost use Rattle.ods_upkeep.specs.Ready.{MayHaveGrown, reserve as reserve_of};
 
+use crate::Placing;
 use ods_filing::Filing;
 use ods_space::last_number;
 
 /// Requests the headers of `files` files at once, so that they share a few pointers of INDEXF.SYS. If INDEXF.SYS has to grow for them, it gets a
 /// reserve: each growth takes a pointer for good, also one for a single file. If the request is refused, nothing changes, and each file requests
-/// its own header.
-pub fn make_ready(filing: &mut Filing, files: usize)
+/// its own header. So does a single file in one piece, since the headers could take blocks of its run.
+pub fn make_ready(filing: &mut Filing, files: usize, placing: Placing)
     ensures { MayHaveGrown files filing.old filing.new }
 {
     let files = files.min(65_535) as u32;
-    if files <= filing.number_count() {
+    if files <= filing.number_count() || (files == 1 && placing == Placing::InOnePiece) {
         return;
     }
     let more = files.max(reserve(filing));
