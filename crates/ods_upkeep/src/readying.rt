@@ -12,8 +12,18 @@ use ods_space::last_number;
 pub fn make_ready(filing: &mut Filing, files: usize, placing: Placing)
     ensures { MayHaveGrown files filing.old filing.new }
 {
+    if files == 1 && placing == Placing::InOnePiece {
+        return;
+    }
+    grow_for(filing, files);
+}
+
+/// Requests the headers of so many files, and a reserve, if they lack.
+fn grow_for(filing: &mut Filing, files: usize)
+    ensures { MayHaveGrown files filing.old filing.new }
+{
     let files = files.min(65_535) as u32;
-    if files <= filing.number_count() || (files == 1 && placing == Placing::InOnePiece) {
+    if files <= filing.number_count() {
         return;
     }
     let more = files.max(reserve(filing));
