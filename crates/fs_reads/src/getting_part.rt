@@ -1,4 +1,7 @@
 //! `get --partial`: what is left of a file whose chain is not whole.
+ghost use Rattle.ods_space.specs.Files.{FindsFiles};
+ghost use Rattle.ods_space.specs.Disks.{on};
+
 use crate::getting::{Destination, How, keep, path_within, second_for};
 use crate::pouring::pour;
 use crate::reading::check_right;
@@ -20,7 +23,9 @@ pub(crate) fn get_part<'a, R: Files<File = File> + AllocGlobal + Print + Eprint>
     how: How<'_>,
     versions: &Versioned,
     written: &mut BTreeSet<String>,
-) -> Result<(), Stop<'a>> {
+) -> Result<(), Stop<'a>>
+    requires { on FindsFiles disk.now }
+{
     let Some(facts) = &found.facts else {
         return Ok(());
     };

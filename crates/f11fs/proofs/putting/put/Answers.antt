@@ -1,5 +1,6 @@
 use Rattle.std.proofs.Common.{◌∙◌, List, ℕ, ap, subst, length, is_some, nat_lt, Bor}
 use Rattle.ods_upkeep.specs.Begun.{IsBegun}
+use Rattle.ods_upkeep.specs.Ready.{MayHaveGrown}
 use Rattle.f11fs.specs.Changed.{hosts_among, path_among}
 use Rattle.f11fs.proofs.PutAll.{put_all}
 use Rattle.f11fs.proofs.putting.put.Goals as goal
