@@ -1,5 +1,8 @@
-use Rattle.std.proofs.Common.{◌≡◌}
+use Rattle.std.proofs.Common.{◌≡◌, List, Option, Result, subst}
+use Rattle.std.specs.Prelude.{ℕ, IfOk}
 use Rattle.std.proofs.lemmas.Result.{IfErr-weaker}
+use Rattle.fs_host.specs.declared.containers.Extent.{Extent}
+use Rattle.fs_reads.specs.Readable.{IsReadableOf}
 use Rattle.fs_reads.specs.Volumes.{IsNoVolume}
 use Rattle.fs_reads.specs.declared.stop.Stop.{Stop}
 use Rattle.fs_reads.specs.declared.volume.VolumeFault.{VolumeFault}
@@ -10,3 +13,7 @@ use Rattle.f11fs.proofs.copying_from.open_other.Goals as goal
 pub returns-clause-err : goal.returns-clause-err
 returns-clause-err g c =
     IfErr-weaker c.readable_of.result (λ (end : Stop). (why : VolumeFault) × IsNoVolume c.args.image why end) IsRefusal (λ end told. no_volume_refusal c.args.image told.0 end told.1) c.readable_of.ensures.err
+
+pub returns-clause-early : goal.returns-clause-early
+returns-clause-early g c place one first there =
+    subst (λ (o : Result (List (List ℕ) × Option Extent) VolumeFault). IfOk c.readable_of.result (λ volume. IsReadableOf o volume)) (c.taken_or_opened-opened.ensures place one first there) c.readable_of.ensures.ok

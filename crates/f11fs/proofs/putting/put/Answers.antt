@@ -1,6 +1,5 @@
 use Rattle.std.proofs.Common.{◌∙◌, List, ℕ, ap, subst, length, is_some, nat_lt, Bor}
 use Rattle.ods_upkeep.specs.Begun.{IsBegun}
-use Rattle.ods_upkeep.specs.Ready.{MayHaveGrown}
 use Rattle.f11fs.specs.Changed.{hosts_among, path_among}
 use Rattle.f11fs.proofs.PutAll.{put_all}
 use Rattle.f11fs.proofs.putting.put.Goals as goal
@@ -13,4 +12,4 @@ returns-clause-done g c =
     (c.read_where-zone.ensures ∙ c.takes_times.ensures)
     (c.path_among-to.ensures ∙ ap (λ (ws : List (Bor (List ℕ))). path_among ws) c.as_slice-2.ensures.value)
     (c.hosts-hosts.ensures ∙ ap (λ (ws : List (Bor (List ℕ))). hosts_among ws) c.as_slice.ensures.value)
-    c.form_of.ensures c.placing_of.ensures (subst (λ (n : ℕ). MayHaveGrown n c.args.filing.now c.make_ready.new.filing) c.len-2.ensures c.make_ready.ensures) c.put_each.ensures.done
+    c.form_of.ensures c.placing_of.ensures c.make_ready.ensures c.put_each.ensures.done
