@@ -40,7 +40,7 @@ _f11fs_of() {
     cmp) options='--all --json -u -q --blocks --order -h --help' takes='host' ;;
     put) options='-t -b --form --like --contiguous --no-contiguous --replace --owner -p -r --skip -o --backup --break-links -n --force --json --stamp -u -q --blocks --order -h --help' takes='host path' ;;
     untar) options='-o --backup --break-links -n --force --json --stamp -u -q --blocks --order -h --help' takes='host path' ;;
-    cp) options='--from -r --next --contiguous --no-contiguous -o --backup --break-links -n --force --json --stamp -u -q --blocks --order -h --help' takes='path' ;;
+    cp) options='--from -r -a --next --contiguous --no-contiguous -o --backup --break-links -n --force --json --stamp -u -q --blocks --order -h --help' takes='path' ;;
     mv) options='-o --backup --break-links -n --force --json -u -q --blocks --order -h --help' takes='path' ;;
     rm) options='--entry --newest -o --backup --break-links -n --force --json -u -q --blocks --order -h --help' takes='path' ;;
     purge) options='-k -o --backup --break-links -n --force --json -u -q --blocks --order -h --help' takes='path' ;;

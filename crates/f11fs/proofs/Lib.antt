@@ -1,4 +1,5 @@
 mod AllTold
+mod Carried
 mod Counts
 mod Leading
 mod Marked
@@ -7,6 +8,8 @@ mod Places
 mod PutAll
 mod Refusals
 mod Slashed
+mod Storing
+mod Taking
 mod Told
 mod Reading
 mod Whole

@@ -24,16 +24,16 @@ image_there items news p place one result first r e f left value g at =
     let is : result ≡ one = value ∙ ap (λ k. get_or items k result) same ∙ got in
     (ap (λ (t : OtherImage). Some t.opened) is, left ∙ ap (λ k. remove items k) same)
 
-both : {V E : Type 0} (bytes : Result V E) (size : V → ℕ) (room left : ℕ) (new : Option ℕ) → IfOk bytes (λ b. size b ≤ room) → MatchResult bytes (λ b. left ≡ room - size b) (λ _. left ≡ room) → new ≡ Some left
-    → IfOk bytes (λ b. (size b ≤ room) × (new ≡ Some (room - size b))) × IfErr bytes (λ _. new ≡ Some room)
-both (Ok b) size room left new few is e = ((few, e ∙ ap (λ n. Some n) is), tt)
-both (Err x) size room left new few is e = (tt, e ∙ ap (λ n. Some n) is)
+both : {V E : Type 0} (bytes : Result V E) (Given : V → Type 0) (size : V → ℕ) (room left : ℕ) (new : Option ℕ) → IfOk bytes Given → IfOk bytes (λ b. size b ≤ room) → MatchResult bytes (λ b. left ≡ room - size b) (λ _. left ≡ room) → new ≡ Some left
+    → IfOk bytes (λ b. Given b × (size b ≤ room) × (new ≡ Some (room - size b))) × IfErr bytes (λ _. new ≡ Some room)
+both (Ok b) Given size room left new given few is e = ((given, few, e ∙ ap (λ n. Some n) is), tt)
+both (Err x) Given size room left new given few is e = (tt, e ∙ ap (λ n. Some n) is)
 
 -- what was read is added
-pub adds : (path : List ℕ) (old new : Early) (room left : ℕ) (one : Taken) → old.room ≡ Some room → new.taken.items ≡ old.taken.items ++ one ∷ [] → string_bytes one.path ≡ path
-    → new.images ≡ old.images → IfOk one.bytes (λ bytes. vec_len bytes ≤ room) → MatchResult one.bytes (λ bytes. left ≡ room - vec_len bytes) (λ _. left ≡ room) → new.room ≡ Some left → AddsReading path old new
-adds path old new room left one begins items at others few is e =
-    let counted = both one.bytes (λ bytes. vec_len bytes) room left new.room few is e in
+pub adds : (G : List ℕ → List ℕ → Type 0) (path : List ℕ) (old new : Early) (room left : ℕ) (one : Taken) → old.room ≡ Some room → new.taken.items ≡ old.taken.items ++ one ∷ [] → string_bytes one.path ≡ path
+    → new.images ≡ old.images → IfOk one.bytes (λ bytes. G path bytes.items) → IfOk one.bytes (λ bytes. vec_len bytes ≤ room) → MatchResult one.bytes (λ bytes. left ≡ room - vec_len bytes) (λ _. left ≡ room) → new.room ≡ Some left → AddsReading G path old new
+adds G path old new room left one begins items at others given few is e =
+    let counted = both one.bytes (λ bytes. G path bytes.items) (λ bytes. vec_len bytes) room left new.room given few is e in
     subst (λ (r : Option ℕ). MatchOption r (new ≡ old) (λ room. (one : Taken) × (new.taken.items ≡ old.taken.items ++ one ∷ []) × (string_bytes one.path ≡ path) × (new.images ≡ old.images)
-    × IfOk one.bytes (λ bytes. (vec_len bytes ≤ room) × (new.room ≡ Some (room - vec_len bytes))) × IfErr one.bytes (λ _. new.room ≡ Some room)))
+    × IfOk one.bytes (λ bytes. G path bytes.items × (vec_len bytes ≤ room) × (new.room ≡ Some (room - vec_len bytes))) × IfErr one.bytes (λ _. new.room ≡ Some room)))
     (sym begins) (one, items, at, others, counted.0, counted.1)

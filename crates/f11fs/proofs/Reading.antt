@@ -6,9 +6,9 @@ use Rattle.f11fs.specs.Readings.{MayAddReading, MayAddReadings}
 use Rattle.f11fs.specs.declared.early.Early.{Early}
 
 -- the first of the rest is read, and then the rest of it
-pub readings_on : (paths : List (Bor (List ℕ))) (i : ℕ) (d : Bor (List ℕ)) (old mid : Early) (goal : Early → Type 0) → i < length paths
-    → ((new : Early) → MayAddReadings (drop i paths) old new → goal new) → MayAddReading (get_or paths i d).now old mid
-    → (new : Early) → MayAddReadings (drop (i + 1) paths) mid new → goal new
-readings_on paths i d old mid goal lt before one new rest =
+pub readings_on : (G : List ℕ → List ℕ → Type 0) (paths : List (Bor (List ℕ))) (i : ℕ) (d : Bor (List ℕ)) (old mid : Early) (goal : Early → Type 0) → i < length paths
+    → ((new : Early) → MayAddReadings G (drop i paths) old new → goal new) → MayAddReading G (get_or paths i d).now old mid
+    → (new : Early) → MayAddReadings G (drop (i + 1) paths) mid new → goal new
+readings_on G paths i d old mid goal lt before one new rest =
     let place : i + 1 ≡ suc i = omega arith in
-    before new (subst (λ l. MayAddReadings l old new) (sym (drop-cons paths i d lt)) (mid, one, subst (λ k. MayAddReadings (drop k paths) mid new) place rest))
+    before new (subst (λ l. MayAddReadings G l old new) (sym (drop-cons paths i d lt)) (mid, one, subst (λ k. MayAddReadings G (drop k paths) mid new) place rest))

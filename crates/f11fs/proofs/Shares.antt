@@ -6,7 +6,7 @@ use Rattle.std.proofs.Math.Seq.{drop-cons, take-suc}
 use Rattle.std.proofs.lemmas.Bool.{cases_eq}
 use Rattle.std.proofs.lemmas.List.{take_all}
 use Rattle.std.proofs.lemmas.List.Elements.{All-contains, All-push, Contains-append_left, Contains-get_or, Contains-push_cases}
-use Rattle.std.proofs.lemmas.Option.{same_Some, slice_get-get_or}
+use Rattle.std.proofs.lemmas.Option.{same_Some, slice_get-get_or, slice_get_within}
 use Rattle.ods_check.specs.Faults.{TellsAll}
 use Rattle.ods_check.specs.Lines.{LineIsTrue}
 use Rattle.ods_check.specs.declared.fault_line.FaultLine.{FaultLine}
@@ -31,6 +31,10 @@ shared_on lines line old new before has (inr (n, (m, b, count, is), more)) =
 -- each line from this place on has its later file among these
 abbrev pub AreSharingFrom : List FaultLine → ℕ → List ℕ → Type 0
 AreSharingFrom lines from files = (j n : ℕ) (line : FaultLine) → from ≤ j → slice_get lines j ≡ Some line → TellsLater line n → Contains files n
+
+-- behind the last line there is none
+pub none_behind : (lines : List FaultLine) (files : List ℕ) → AreSharingFrom lines (length lines - 0) files
+none_behind lines files j n line from at tells = let within = slice_get_within lines j line at in absurd (omega (arith, from, within))
 
 pub one_before : (lines : List FaultLine) (k : ℕ) (line : FaultLine) (old new : List ℕ) → slice_get lines k ≡ Some line → AreSharingFrom lines (k + 1) old
     → (new ≡ old) ⊎ ((n : ℕ) × TellsLater line n × (new ≡ old ++ n ∷ [])) → ((n : ℕ) → TellsLater line n → Contains new n) → AreSharingFrom lines k new

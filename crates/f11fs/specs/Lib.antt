@@ -10,6 +10,7 @@ pub mod Plans
 pub mod Readings
 pub mod Saved
 pub mod Seen
+pub mod Stores
 pub mod Unpacked
 pub mod Wrong
 pub mod TreePut

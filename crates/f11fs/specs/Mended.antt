@@ -19,7 +19,8 @@ use Rattle.ods_check.specs.declared.finding.Finding.{Finding}
 use Rattle.ods_filing.specs.Filed.{Filed}
 use Rattle.ods_paths.specs.Paths.{Said, Says}
 use Rattle.ods_request.specs.declared.refusals.Refusal.TheVariants as refusal
-use Rattle.ods_repair.specs.Cleared.{IsCleared, IsNotCleared}
+use Rattle.ods_repair.specs.Asked.{IsBare, IsCovered}
+use Rattle.ods_repair.specs.Cleared.{IsCleared}
 use Rattle.ods_repair.specs.Doubled.{HasRenumbered, IsNotRenumbered}
 use Rattle.ods_repair.specs.Found.{IsFound, IsNotFound}
 use Rattle.ods_repair.specs.Freed.{IsFreed, IsNotFreed}
@@ -101,14 +102,10 @@ abbrev pub LeavesDouble : Bool → List (List ℕ) → List (List ℕ) → Type 
 LeavesDouble false I J = J ≡ I
 LeavesDouble true I J = (L : VolumeLayout) × (ds : List ℕ) × IsLayoutOf I L × All (λ d. IsTrueOf I L (DuplicateName d)) ds × LeavesDirectories L ds I J
 
--- the volume is unchanged, since not all entries that name no file can be removed: one is refused
-abbrev pub ClearsNone : Filed → Filed → Type 0
-ClearsNone old new = (new ≡ old) × ((left : Filed) × IsLeftFor (IsNotCleared old left))
-
--- what `names` leaves: entries that named no file are removed; or one is refused, and nothing is done
+-- what `names` leaves: entries that named no file are removed
 abbrev pub LeavesNames : Bool → Filed → Filed → Type 0
 LeavesNames false old new = new ≡ old
-LeavesNames true old new = ((found : List Dangling) × IsCleared old found new) ⊎ ClearsNone old new
+LeavesNames true old new = (found : List Dangling) × IsCleared old found new
 
 -- the found entry is this directory
 abbrev pub IsDirectoryFound : Named → FileId → Type 0
@@ -122,9 +119,19 @@ IsOneDirectory all dir = (found : Named) × (all ≡ found ∷ []) × IsDirector
 abbrev pub IsDirectoryOf : Filed → List ℕ → FileId → Type 0
 IsDirectoryOf volume path dir = (says : Said) × Says path says × ((all : List Named) × AreNamedBy volume.image volume.layout [] says (highest alone.Themselves) all × IsOneDirectory all dir)
 
--- the directory exists, or is created like with mkdir
+-- The directory is created like with mkdir, while the master directory denies nothing. Then that has its protection again.
+pub record IsCreated (stamp : List ℕ) (path : Bor (List ℕ)) (old new : Filed) : Type 0 where
+  pub master : FileId
+  pub is : master.number ≡ 4
+  pub bare : Filed
+  pub done : Filed
+  pub bared : IsBare old master bare
+  pub made : AreMade None 0 stamp (path ∷ []) bare done
+  pub covered : IsCovered old master done new
+
+-- the directory exists, or is created
 abbrev pub HasDirectory : List ℕ → Bor (List ℕ) → Filed → Filed → FileId → Type 0
-HasDirectory stamp path old new dir = ((new ≡ old) ⊎ AreMade None 0 stamp (path ∷ []) old new) × IsDirectoryOf new path.now dir
+HasDirectory stamp path old new dir = ((new ≡ old) ⊎ IsCreated stamp path old new) × IsDirectoryOf new path.now dir
 
 -- something to repair is left, also if files stay lost
 abbrev pub is_left_by : Bool → List FileId → Bool
@@ -147,9 +154,10 @@ EntersNot old dir = (left : Filed) × IsLeftFor (IsNotFound old dir left)
 abbrev pub EntersLost : List ℕ → Bor (List ℕ) → Filed → Filed → Type 0
 EntersLost stamp into old new = (mid : Filed) × (dir : FileId) × HasDirectory stamp into old mid dir × EntersAll mid dir new
 
--- the directory for them does not exist, and mkdir does not make it
+-- the directory for them does not exist, and mkdir does not make it, also while the master directory denies nothing
 abbrev pub IsNoDirectoryMade : List ℕ → Bor (List ℕ) → Filed → Type 0
-IsNoDirectoryMade stamp into old = (left : Filed) × (failure : Failure) × (failure.why ≢ no_memory) × AreNotMade None 0 stamp (into ∷ []) old left failure
+IsNoDirectoryMade stamp into old = (master : FileId) × (bare : Filed) × (master.number ≡ 4) × IsBare old master bare
+    × ((left : Filed) × (failure : Failure) × (failure.why ≢ no_memory) × AreNotMade None 0 stamp (into ∷ []) bare left failure)
 
 -- why they are not entered: their directory is not made, or it does not take one of them
 abbrev pub EntersNone : List ℕ → Bor (List ℕ) → Filed → Type 0
@@ -227,15 +235,10 @@ abbrev pub IsWhollyFreed : Bool → Filed → Filed → Type 0
 IsWhollyFreed false old new = new ≡ old
 IsWhollyFreed true old new = (told : List Finding) × IsFreed old told new
 
--- `names` was made, if it is requested
-abbrev pub IsWhollyCleared : Bool → Filed → Filed → Type 0
-IsWhollyCleared false old new = new ≡ old
-IsWhollyCleared true old new = (found : List Dangling) × IsCleared old found new
-
 -- the requested repairs of a sound volume were made
 abbrev pub IsSoundWhollyMended : Repairs → List ℕ → Bor (List ℕ) → Filed → Filed → Type 0
 IsSoundWhollyMended kinds stamp into old new =
-    (named : Filed) × (freed : Filed) × IsWhollyCleared kinds.names old named × IsWhollyFreed kinds.free named freed × LeavesLost kinds.lost stamp into freed new × LosesNone kinds.lost new
+    (named : Filed) × (freed : Filed) × LeavesNames kinds.names old named × IsWhollyFreed kinds.free named freed × LeavesLost kinds.lost stamp into freed new × LosesNone kinds.lost new
 
 -- the image is sound, and they were made
 abbrev pub IsMountedWhollyMended : Repairs → List ℕ → Bor (List ℕ) → List (List ℕ) → List (List ℕ) → Type 0

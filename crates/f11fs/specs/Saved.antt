@@ -22,11 +22,13 @@ abbrev pub EndsSaved : Finished → Type 0
 EndsSaved (ended.Told s) = s ≡ status.Done
 EndsSaved (ended.Saved s) = IsSavedStatus s
 
--- why an image is not locked, or has no volume that may be changed
+-- why an image is not locked
 abbrev pub IsNotLocked : Bor (List ℕ) → Bool → Bool → Stop → Type 0
-IsNotLocked path writes force s =
-    ((fault : SaveFault) × IsTrue (may_end_locking writes force fault) × (s ≡ stop.Word path (word.Unsaved fault)))
-    ⊎ ((((fault : VolumeFault) × IsNoVolume path fault s) ⊎ (s ≡ stop.NoMemory)) ⊎ (s ≡ stop.Word path word.Lacking))
+IsNotLocked path writes force s = (fault : SaveFault) × IsTrue (may_end_locking writes force fault) × (s ≡ stop.Word path (word.Unsaved fault))
+
+-- why a locked image has no volume that may be changed
+abbrev pub IsNotRead : Bor (List ℕ) → Stop → Type 0
+IsNotRead path s = (((fault : VolumeFault) × IsNoVolume path fault s) ⊎ (s ≡ stop.NoMemory)) ⊎ (s ≡ stop.Word path word.Lacking)
 
 -- the image, which may be a floppy in physical order, is saved in a new file at this path, or the reason why it is not is returned
 abbrev pub IsWrittenTo : Bool → Bor (List ℕ) → Result Finished Stop → Type 0

@@ -15,9 +15,12 @@ use Rattle.ods_upkeep.specs.Pieces.{HasStatus}
 use Rattle.ods_upkeep.specs.Refused.{no_memory}
 use Rattle.ods_upkeep.specs.TreeNames.{SaysNoPlace, SaysPlace}
 use Rattle.ods_upkeep.specs.declared.failure.Why.{Why}
-use Rattle.f11fs.specs.TreePut.{IsPlaced}
 use Rattle.f11fs.specs.declared.judging_tree.TreeFault.{TreeFault}
 use Rattle.f11fs.specs.declared.judging_tree.TreeFault.TheVariants.{Name, Folder, Other, OwnTree, Unread}
+
+-- the path of an entry in a tree specifies a location on the volume
+abbrev pub IsPlaced : TreeEntry → Type 0
+IsPlaced entry = SaysPlace (string_bytes entry.path)
 
 -- a command that is refused for this fault has that exit status
 abbrev pub HasTreeStatus : TreeFault → Status → Type 0

@@ -6,6 +6,7 @@ use Rattle.ods_archive.specs.declared.kind.Kind.{Kind}
 use Rattle.ods_archive.specs.declared.kind.Kind.TheVariants.{Directory}
 use Rattle.ods_base.specs.declared.file_id.FileId.{FileId}
 use Rattle.ods_filing.specs.Filed.{Filed}
+use Rattle.ods_request.specs.Stamps.{is_stamp}
 use Rattle.ods_untar.specs.Below.{bare, below}
 use Rattle.ods_untar.specs.Wanted.{AsksFor}
 use Rattle.ods_upkeep.specs.Ready.{MayHaveGrown}
@@ -35,16 +36,26 @@ abbrev pub placing_told : Option (ℕ × ℕ) → Placing
 placing_told None = Anywhere
 placing_told (Some characteristics) = if nat_le 128 characteristics.0 then InOnePiece else Anywhere
 
--- the time of a file by that of its member, or that of the run if the member has none since 1970
-abbrev pub IsMemberTime : Bool → List ℕ → Option ℕ → List ℕ → Type 0
-IsMemberTime said run None stamp = stamp ≡ run
-IsMemberTime said run (Some second) stamp = IsTimeOf said run second stamp
+-- the local time at which a member was changed, or the time of the run if the member has none since 1970
+abbrev pub IsChangeTime : List ℕ → Option ℕ → List ℕ → Type 0
+IsChangeTime run None stamp = stamp ≡ run
+IsChangeTime run (Some second) stamp = IsTimeOf false run second stamp
+
+-- the time of a file: the date in its records, or without one that of its member
+abbrev pub IsOwnTime : List ℕ → Option (List ℕ) → Option ℕ → List ℕ → Type 0
+IsOwnTime run None time stamp = IsChangeTime run time stamp
+IsOwnTime run (Some date) time stamp = MatchBool (is_stamp date) (stamp ≡ date) (IsChangeTime run time stamp)
+
+-- the time of a file: a specified time, or else its own
+abbrev pub IsMemberTime : Bool → List ℕ → Option (List ℕ) → Option ℕ → List ℕ → Type 0
+IsMemberTime true run date time stamp = stamp ≡ run
+IsMemberTime false run date time stamp = IsOwnTime run date time stamp
 
 -- the put file of an archive entry: below the specified directory, at its time, with its bytes and everything that its records specify
 pub record IsPackedFrom (said : Bool) (directory : Option (Bor (List ℕ))) (run : List ℕ) (wanted : Wanted) (packed : Packed) : Type 0 where
   pub path : packed.path.now ≡ below directory (entry_of wanted.found).path
   pub bytes : packed.bytes.now ≡ wanted.found.bytes.now
-  pub stamp : IsMemberTime said run wanted.found.mtime packed.stamp
+  pub stamp : IsMemberTime said run wanted.told.date wanted.found.mtime packed.stamp
   pub attributes : packed.attributes ≡ wanted.told.attributes
   pub owner : packed.owner ≡ wanted.told.owner
   pub protection : packed.protection ≡ wanted.told.protection
@@ -53,7 +64,7 @@ pub record IsPackedFrom (said : Bool) (directory : Option (Bor (List ℕ))) (run
 -- the directory of an archive entry: below the specified directory, without slashes at its end, and at its time
 pub record IsDirectoryFrom (said : Bool) (directory : Option (Bor (List ℕ))) (run : List ℕ) (wanted : Wanted) (packed : PackedDirectory) : Type 0 where
   pub path : packed.path.now ≡ below directory (bare (entry_of wanted.found).path)
-  pub stamp : IsMemberTime said run wanted.found.mtime packed.stamp
+  pub stamp : IsMemberTime said run wanted.told.date wanted.found.mtime packed.stamp
 
 abbrev pub is_directory : Kind → Bool
 is_directory Directory = true
@@ -92,11 +103,11 @@ ArePutFrom said directory stamp [] due old new = (due ≡ []) × (new ≡ old)
 ArePutFrom said directory stamp (w ∷ wanted) due old new =
     (first : List Access) × (rest : List Access) × (mid : Filed) × (due ≡ first ++ rest) × IsPut said directory stamp w first old mid × ArePutFrom said directory stamp wanted rest mid new
 
--- Each file and directory of an archive was put, below the directory that the words specify. The host gave the bytes of the archive. Before the first
--- INDEXF.SYS may get the headers that it lacks for all of them. After the last each directory that was created receives the owner and the protection
+-- Each file and directory of the archive that the words name was put, below the directory that they specify. Before the first INDEXF.SYS may get the headers that it lacks for all of them. After the last each directory that was created receives the owner and the protection
 -- in its records. Nothing else was done.
-pub record AreUntarred (said : Bool) (words : List (Bor (List ℕ))) (stamp : List ℕ) (old new : Filed) : Type 0 where
+pub record AreUntarred (Gives : List ℕ → List ℕ → Type 0) (said : Bool) (words : List (Bor (List ℕ))) (stamp : List ℕ) (old new : Filed) : Type 0 where
   pub bytes : List ℕ
+  pub given_bytes : Gives (archive_among words) bytes
   pub wanted : List Wanted
   pub asked : AsksFor bytes wanted
   pub ready : Filed

@@ -3,10 +3,11 @@ ghost use Rattle.std.specs.Prelude.{◌≡◌, IfErr, OnOk, slice_get};
 ghost use Rattle.ods_filing.specs.Led.{IsLed};
 ghost use Rattle.ods_upkeep.specs.Appended.{IsGrown};
 ghost use Rattle.ods_upkeep.specs.Kinds.{Appends as Asks};
-ghost use Rattle.f11fs.specs.Changed.{AppendsTo, AppendsToFirst, IsRefusal};
+ghost use Rattle.f11fs.specs.{Changed.AppendsTo, Changed.AppendsToFirst, Changed.IsRefusal, Readings.AreTaken};
 
-use crate::changing::stop_failed;
+use crate::changing::{stop_failed, stop_unfound};
 use crate::early::Early;
+use crate::host::Host;
 use crate::putting::host_bytes;
 use fs_host::Shown;
 use fs_reads::Stop;
@@ -14,18 +15,18 @@ use fs_words::Words;
 use ods_filing::Filing;
 use ods_shell::{Facts, Status};
 use ods_upkeep::{append_bytes, open_end, room_behind};
-use std::fs::File;
-use std::rt::Files;
 
 /// Runs `append`: the first word is the path on the volume, and the second the host file, or `-`.
 #[tactic(auto, using(crate::proofs::Appended::to_first))]
-pub fn append<'a, R: Files<File = File> + AllocGlobal + Eprint>(
+pub(crate) fn append<'a, R: Host>(
     rt: &R,
     filing: &mut Filing,
     words: &Words<'a>,
     early: &mut Early,
 ) -> Result<(), Stop<'a>>
-    ensures done { OnOk result (AppendsToFirst words.now.paths.items filing.old filing.new) }
+    requires { AreTaken (R.gives rt.now) early.old.taken.items }
+    ensures taken { AreTaken (R.gives rt.now) early.new.taken.items }
+    ensures done { OnOk result (AppendsToFirst (R.gives rt.now) words.now.paths.items filing.old filing.new) }
     ensures refused { IfErr result IsRefusal }
     ensures led { IsLed Asks filing.old filing.new }
 {
@@ -40,7 +41,7 @@ pub fn append<'a, R: Files<File = File> + AllocGlobal + Eprint>(
 
 /// Puts a host file behind the end of the file that a path names.
 #[tactic(auto, using(crate::proofs::Refusals::unread_refusal))]
-fn append_to<'a, R: Files<File = File> + AllocGlobal + Eprint>(
+fn append_to<'a, R: Host>(
     rt: &R,
     filing: &mut Filing,
     path: &'a str,
@@ -48,13 +49,15 @@ fn append_to<'a, R: Files<File = File> + AllocGlobal + Eprint>(
     quiet: bool,
     early: &mut Early,
 ) -> Result<(), Stop<'a>>
-    ensures done { OnOk result (AppendsTo path.now filing.old filing.new) }
+    requires { AreTaken (R.gives rt.now) early.old.taken.items }
+    ensures taken { AreTaken (R.gives rt.now) early.new.taken.items }
+    ensures done { OnOk result (AppendsTo (R.gives rt.now) path.now host.entry.now filing.old filing.new) }
     ensures refused { IfErr result IsRefusal }
     ensures led { IsLed Asks filing.old filing.new }
 {
     let facts = match open_end(rt.alloc(), filing.mounted(), path) {
         Ok(facts) => facts,
-        Err(failure) => return Err(stop_failed(rt.alloc(), &failure)),
+        Err(failure) => return Err(stop_unfound(rt.alloc(), filing, &failure)),
     };
     let bytes = host_bytes(rt, host, room_behind(filing, &facts), early)?;
     append_read(rt, filing, path, host, &facts, bytes.as_slice(), quiet)

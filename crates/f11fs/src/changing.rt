@@ -1,12 +1,12 @@
 //! The commands that change a volume: put, cp, mv, rm, purge, mkdir, rmdir, truncate, append, chmod, chown and label.
-ghost use Rattle.std.specs.Prelude.{◌≡◌, ◌⊎◌, ◌&&◌, true, false, None, IfErr, IfOk, IfSome, IsOk, IsSomeAnd, MatchOption, OnErr, OnOk, is_some, length, not, unwrap_or};
-ghost use Rattle.fs_host.specs.{Found.SaysShort, Kept.force_kept, Kept.is_floppy, Kept.remark_kept, Times.IsStampOfLocal};
+ghost use Rattle.std.specs.Prelude.{◌≡◌, ◌⊎◌, ◌&&◌, ◌↔◌, true, false, None, IfErr, IfOk, IfSome, IsOk, IsSomeAnd, IsTrue, MatchOption, OnErr, OnOk, is_some, length, not, unwrap_or};
+ghost use Rattle.fs_host.specs.{Found.SaysShort, Times.IsStampOfLocal};
 ghost use Rattle.ods_shell.specs.declared.status.Status.{Status as Code};
 ghost use Rattle.ods_upkeep.specs.Pieces.{HasStatus};
 ghost use Rattle.fs_reads.specs.{Ends.StopsWith, Volumes.LacksBlocks};
 ghost use Rattle.fs_reads.specs.declared.stop.Stop.{Stop as End};
 ghost use Rattle.fs_reads.specs.declared.stop.WordFault.{WordFault as AWordFault};
-ghost use Rattle.f11fs.specs.{Changed.IsChanged, Changed.IsLabelled, Changed.IsNoLabel, Changed.IsRefusal, Changed.KeepsTo, Changed.MakesAll, Saved.EndsSaved, Saved.IsNotLocked, Saved.IsNotSaved, Saved.IsSavedStatus, Saved.IsWrittenTo};
+ghost use Rattle.f11fs.specs.{Changed.IsChanged, Changed.IsLabelled, Changed.IsNoLabel, Changed.IsRefusal, Changed.KeepsTo, Changed.MakesAll, Readings.AreTaken, Saved.EndsSaved, Saved.IsNotLocked, Saved.IsNotRead, Saved.IsNotSaved, Saved.IsSavedStatus, Saved.IsWrittenTo, Stores.GainsNoCopy, Stores.ImageStays, Stores.IsMadeAndSaved, Stores.IsSavedIn, Stores.MakesChange};
 
 use crate::appending::append;
 use crate::copying_from::copy_from_image;
@@ -15,13 +15,14 @@ use crate::host::Host;
 use crate::orders::layers_of;
 use crate::putting::placing_for;
 use crate::putting_tree::put_files;
+use crate::store::{OnHost, Store};
 use crate::telling::plan_text;
 use crate::truncating::truncate;
 use crate::untarring::untar;
-use fs_host::{Locked, Shown, Unfinished, stamp_of_now};
+use fs_host::{Extent, Shown, Unfinished, stamp_of_now};
 use fs_reads::{
-    Stop, WordFault, image_of, lacks_blocks, say_extent, send, stop_about, stop_at_own_output,
-    volume_of,
+    Stop, WordFault, image_of, lacks_blocks, path_elsewhere, say_extent, send, stop_about,
+    stop_at_own_output, volume_of,
 };
 use fs_words::{Change, Saving, Words};
 use ods_base::{Image, Uic};
@@ -29,9 +30,9 @@ use ods_filing::Filing;
 use ods_init::Label;
 use ods_mount::Mounted;
 use ods_request::Stamp;
-use ods_shell::Status;
+use ods_shell::{PathFault, Status};
 use ods_upkeep::{
-    Failure, Placing, Removal, copy_files, give_owner, give_protection, is_below_another,
+    Failure, Placing, Removal, Why, copy_files, give_owner, give_protection, is_below_another,
     make_directories, make_ready, move_names, purge_files, remove_directories, remove_files,
 };
 use std::alloc::{AllocError, Global};
@@ -43,6 +44,7 @@ pub const KEEPER: Uic = Uic {
 };
 
 /// Makes the requested change on the locked image and saves it, or with `-n` prints what would change.
+#[tactic(auto, using(crate::proofs::Taking::none_taken))]
 pub fn change_image<'a, R: Host>(
     rt: &R,
     words: &Words<'a>,
@@ -53,11 +55,32 @@ pub fn change_image<'a, R: Host>(
     stop_at_own_output(rt, words.image)?;
     let mut early = Early::of(rt, words.image);
     early.read_words(rt, words)?;
-    let (mut locked, volume) = lock_volume(rt, words, false)?;
+    let mut store = lock_image(rt, words)?;
+    change_store(rt, &mut store, words, change, &mut early)
+}
+
+/// Makes the requested change of a locked image and saves it, or with `-n` prints what would change.
+fn change_store<'a, R: Host, S: Store>(
+    rt: &R,
+    store: &mut S,
+    words: &Words<'a>,
+    change: Change<'a>,
+    early: &mut Early,
+) -> Result<Status, Stop<'a>>
+    requires { AreTaken (R.gives rt.now) early.old.taken.items }
+    ensures status { IfOk result IsSavedStatus }
+    // What is only printed is not saved.
+    ensures told { words.now.saving.only_tells ≡ true → ImageStays (S.has store.old) (S.has store.new) × GainsNoCopy (S.has_copy store.old) (S.has_copy store.new) }
+    // What is saved is the change of the blocks that the image had.
+    ensures saved { words.now.saving.only_tells ≡ false → OnOk result (IsMadeAndSaved (MakesChange (R.gives rt.now) change.entry words.now) words.now.saving.out (S.has store.old) (S.has store.new) (S.has_copy store.new)) }
+    // If the run fails, the image has its former blocks, or all of the change.
+    ensures kept { OnErr result (ImageStays (S.has store.old) (S.has store.new) ⊎ IsMadeAndSaved (MakesChange (R.gives rt.now) change.entry words.now) None (S.has store.old) (S.has store.new) (S.has_copy store.new)) }
+{
+    let volume = read_volume(rt, store, words, false)?;
     let asker = asker_of(rt, words)?;
     let before = kept_before(words, &volume)?;
-    let filing = changed(rt, volume, asker, words, change, &mut early)?;
-    let finished = finish(rt, words, &mut locked, &before, filing.mounted())?;
+    let filing = changed(rt, volume, asker, words, change, early)?;
+    let finished = finish(rt, words, store, &before, filing.mounted())?;
     Ok(status_of(finished))
 }
 
@@ -70,24 +93,46 @@ fn changed<'a, R: Host>(
     change: Change<'a>,
     early: &mut Early,
 ) -> Result<Filing, Stop<'a>>
-    ensures { IfOk result (IsChanged change.entry words.now.paths.items asker.stamp (record { image = volume.image; layout = volume.layout; user = asker.user })) }
+    requires { AreTaken (R.gives rt.now) early.old.taken.items }
+    ensures { IfOk result (IsChanged (R.gives rt.now) change.entry words.now.paths.items asker.stamp (record { image = volume.image; layout = volume.layout; user = asker.user })) }
 {
     let mut filing = Filing::new(rt.alloc(), volume, asker.user)?;
     change_volume(rt, &mut filing, asker.stamp, words, change, early)?;
     Ok(filing)
 }
 
-/// Locks the image, and returns its volume. With `is_copied`, or if the command only prints what would change, the volume shares its blocks with
-/// its copies.
-pub fn lock_volume<'a, R: Host>(
-    rt: &R,
+/// Locks the image that the words name.
+pub(crate) fn lock_image<'r, 'a, R: Host>(
+    rt: &'r R,
     words: &Words<'a>,
-    is_copied: bool,
-) -> Result<(Locked, Mounted), Stop<'a>>
+) -> Result<OnHost<'r, R>, Stop<'a>>
     ensures { IfErr result (IsNotLocked words.now.image (not (is_some words.now.saving.out) && not words.now.saving.only_tells) words.now.force) }
 {
-    let (locked, image) = match lock_image(rt, words) {
-        Ok(found) => found,
+    let writes = words.saving.out.is_none() && !words.saving.only_tells;
+    match OnHost::lock(rt, words.image, writes, words.force) {
+        Ok(store) => {
+            say_unseen(rt, words.image, store.unseen());
+            Ok(store)
+        }
+        Err(fault) => Err(Stop::Word(words.image, WordFault::Unsaved(fault))),
+    }
+}
+
+/// Reads the volume of a locked image. With `is_copied`, or if the command only prints what would change, the volume shares its blocks with its
+/// copies.
+pub(crate) fn read_volume<'a, R: Host, S: Store>(
+    rt: &R,
+    store: &mut S,
+    words: &Words<'a>,
+    is_copied: bool,
+) -> Result<Mounted, Stop<'a>>
+    ensures read { IfOk result (λ volume. S.has store.old volume.image) }
+    ensures stays { ImageStays (S.has store.old) (S.has store.new) }
+    ensures copies { GainsNoCopy (S.has_copy store.old) (S.has_copy store.new) }
+    ensures err { IfErr result (IsNotRead words.now.image) }
+{
+    let image = match read_image(rt, store, words) {
+        Ok(image) => image,
         Err(stop) => return Err(stop),
     };
     let volume = match volume_of(rt, words.image, Ok(image)) {
@@ -95,34 +140,32 @@ pub fn lock_volume<'a, R: Host>(
         Err(stop) => return Err(stop),
     };
     if is_copied || words.saving.only_tells {
-        match sharing(volume) {
-            Ok(volume) => Ok((locked, volume)),
-            Err(stop) => Err(stop),
-        }
+        sharing(volume)
     } else {
-        Ok((locked, volume))
+        Ok(volume)
     }
 }
 
-/// Locks the image, and reads its blocks. An image that ends before a block of a file is refused.
-pub fn lock_image<'a, R: Host>(rt: &R, words: &Words<'a>) -> Result<(Locked, Image), Stop<'a>>
-    ensures whole { IfOk result (λ found. ¬ LacksBlocks (remark_kept found.0) found.1) }
-    ensures err { IfErr result (IsNotLocked words.now.image (not (is_some words.now.saving.out) && not words.now.saving.only_tells) words.now.force) }
+/// Reads the blocks of a locked image. An image that ends before a block of a file is refused.
+pub(crate) fn read_image<'a, R: Host, S: Store>(
+    rt: &R,
+    store: &mut S,
+    words: &Words<'a>,
+) -> Result<Image, Stop<'a>>
+    ensures read { IfOk result (λ image. S.has store.old image) }
+    ensures whole { IfOk result (λ image. ¬ LacksBlocks (S.remark store.new) image) }
+    ensures stays { ImageStays (S.has store.old) (S.has store.new) }
+    ensures copies { GainsNoCopy (S.has_copy store.old) (S.has_copy store.new) }
+    ensures err { IfErr result (IsNotRead words.now.image) }
 {
-    let writes = words.saving.out.is_none() && !words.saving.only_tells;
-    let mut locked = match Locked::of(rt, words.image, writes, words.force) {
-        Ok(locked) => locked,
-        Err(fault) => return Err(Stop::Word(words.image, WordFault::Unsaved(fault))),
-    };
-    say_unseen(rt, words.image, locked.unseen());
-    let image = locked.read(rt.alloc(), words.blocks, layers_of(words.order));
-    say_extent(rt, words.image, locked.extent(), false);
+    let image = store.read(rt.alloc(), words.blocks, layers_of(words.order));
+    say_extent(rt, words.image, store.extent(), false);
     let image = match image_of(rt, words.image, image) {
         Ok(image) => image,
         Err(stop) => return Err(stop),
     };
-    match lacks_blocks(rt.alloc(), &image, locked.extent()) {
-        Ok(false) => Ok((locked, image)),
+    match lacks_blocks(rt.alloc(), &image, store.extent()) {
+        Ok(false) => Ok(image),
         Ok(true) => Err(Stop::Word(words.image, WordFault::Lacking)),
         Err(_) => Err(Stop::from(AllocError)),
     }
@@ -205,51 +248,57 @@ pub fn asker_of<'a, R: Host>(rt: &R, words: &Words<'a>) -> Result<Asker, Stop<'a
 
 /// Prints what would change, if the volume before is given. Otherwise saves the changed image as the words specify. An unchanged image is not
 /// written.
-pub fn finish<'a, R: Host>(
+pub fn finish<'a, R: Host, S: Store>(
     rt: &R,
     words: &Words<'a>,
-    locked: &mut Locked,
+    store: &mut S,
     before: &Option<Mounted>,
     volume: &Mounted,
 ) -> Result<Finished, Stop<'a>>
     ensures told { IfSome before.now (λ _. IfOk result (λ f. f ≡ Finished.Told Code.Done)) }
+    // What is only printed is not saved.
+    ensures unsaved { IfSome before.now (λ _. store.new ≡ store.old) }
     ensures status { IfOk result EndsSaved }
-    ensures out { before.now ≡ None → IfSome words.now.saving.out (λ out. IsWrittenTo (is_floppy locked.old) out result) }
+    ensures saved { before.now ≡ None → OnOk result (IsSavedIn words.now.saving.out (S.has store.old) (S.has store.new) (S.has_copy store.new) volume.now.image) }
+    ensures kept { OnErr result (ImageStays (S.has store.old) (S.has store.new) ⊎ S.has store.new volume.now.image) }
+    ensures out { before.now ≡ None → IfSome words.now.saving.out (λ out. IsWrittenTo (S.is_floppy store.old) out result) }
     // An image that is shorter than its volume is written only where the words say so.
-    ensures short { before.now ≡ None → words.now.saving.out ≡ None → words.now.force ≡ false → IsSomeAnd (remark_kept locked.old) SaysShort → IfOk result (λ f. f ≡ Finished.Told Code.Done) }
-    ensures err { before.now ≡ None → words.now.saving.out ≡ None → IfErr result (IsNotSaved words.now.image (is_floppy locked.old) (force_kept locked.old) words.now.saving.backup words.now.saving.break_links) }
+    ensures short { before.now ≡ None → words.now.saving.out ≡ None → words.now.force ≡ false → IsSomeAnd (S.remark store.old) SaysShort → IfOk result (λ f. f ≡ Finished.Told Code.Done) }
+    ensures err { before.now ≡ None → words.now.saving.out ≡ None → IfErr result (IsNotSaved words.now.image (S.is_floppy store.old) (S.force store.old) words.now.saving.backup words.now.saving.break_links) }
 {
     if let Some(before) = before {
         let text = plan_text(rt.alloc(), before, volume, words.json)?;
         return Ok(Finished::Told(send(rt, text.as_str())?));
     }
-    save_image(rt, words, locked, volume.image())
+    save_image(rt, words, store, volume.image())
 }
 
 /// Saves the changed image as the words specify. Without `-o`, an unchanged image is not written, and an image shorter than its volume only with
 /// `--force`.
-pub fn save_image<'a, R: Host>(
+pub fn save_image<'a, R: Host, S: Store>(
     rt: &R,
     words: &Words<'a>,
-    locked: &mut Locked,
+    store: &mut S,
     image: &Image,
 ) -> Result<Finished, Stop<'a>>
     ensures status { IfOk result EndsSaved }
-    ensures out { IfSome words.now.saving.out (λ out. IsWrittenTo (is_floppy locked.old) out result) }
+    ensures saved { OnOk result (IsSavedIn words.now.saving.out (S.has store.old) (S.has store.new) (S.has_copy store.new) image.now) }
+    ensures kept { OnErr result (ImageStays (S.has store.old) (S.has store.new) ⊎ S.has store.new image.now) }
+    ensures out { IfSome words.now.saving.out (λ out. IsWrittenTo (S.is_floppy store.old) out result) }
     // An image that is shorter than its volume is written only where the words say so.
-    ensures short { words.now.saving.out ≡ None → words.now.force ≡ false → IsSomeAnd (remark_kept locked.old) SaysShort → IfOk result (λ f. f ≡ Finished.Told Code.Done) }
-    ensures err { words.now.saving.out ≡ None → IfErr result (IsNotSaved words.now.image (is_floppy locked.old) (force_kept locked.old) words.now.saving.backup words.now.saving.break_links) }
+    ensures short { words.now.saving.out ≡ None → words.now.force ≡ false → IsSomeAnd (S.remark store.old) SaysShort → IfOk result (λ f. f ≡ Finished.Told Code.Done) }
+    ensures err { words.now.saving.out ≡ None → IfErr result (IsNotSaved words.now.image (S.is_floppy store.old) (S.force store.old) words.now.saving.backup words.now.saving.break_links) }
 {
     if let Some(out) = words.saving.out {
-        return match locked.write_copy(rt, out, image) {
+        return match store.write_copy(out, image) {
             Ok(wanting) => Ok(Finished::Saved(say_unfinished(rt, out, wanting))),
             Err(fault) => Err(Stop::Word(out, WordFault::Unsaved(fault))),
         };
     }
-    if locked.is(image) {
+    if store.is(image) {
         return Ok(Finished::Told(Status::Done));
     }
-    if locked.is_short() && !words.force {
+    if is_short(store.extent()) && !words.force {
         return Err(Stop::Word(words.image, WordFault::Short));
     }
     let Saving {
@@ -257,9 +306,19 @@ pub fn save_image<'a, R: Host>(
         break_links,
         ..
     } = words.saving;
-    match locked.save(rt, image, backup, break_links) {
+    match store.save(image, backup, break_links) {
         Ok(wanting) => Ok(Finished::Saved(say_unfinished(rt, words.image, wanting))),
         Err(fault) => Err(Stop::Word(words.image, WordFault::Unsaved(fault))),
+    }
+}
+
+/// Whether an image with this remark is shorter than its volume.
+fn is_short(remark: Option<Extent>) -> bool
+    ensures { IsTrue result ↔ IsSomeAnd remark SaysShort }
+{
+    match remark {
+        Some(extent) => extent.is_short(),
+        None => false,
     }
 }
 
@@ -279,7 +338,7 @@ pub fn say_unfinished<R: Eprint>(rt: &R, path: &str, wanting: Option<Unfinished>
 
 /// Makes the requested change. A refused change may be made in part.
 #[tactic(auto, using(crate::proofs::Giving::done_or_same, crate::proofs::Giving::some_got, crate::proofs::Leading::through, crate::proofs::Leading::unmoved))]
-pub fn change_volume<'a, R: Host>(
+pub(crate) fn change_volume<'a, R: Host>(
     rt: &R,
     filing: &mut Filing,
     stamp: Stamp,
@@ -287,7 +346,9 @@ pub fn change_volume<'a, R: Host>(
     change: Change<'a>,
     early: &mut Early,
 ) -> Result<(), Stop<'a>>
-    ensures done { OnOk result (IsChanged change.entry words.now.paths.items stamp filing.old filing.new) }
+    requires { AreTaken (R.gives rt.now) early.old.taken.items }
+    ensures taken { AreTaken (R.gives rt.now) early.new.taken.items }
+    ensures done { OnOk result (IsChanged (R.gives rt.now) change.entry words.now.paths.items stamp filing.old filing.new) }
     ensures refused { IfErr result IsRefusal }
     ensures kept { KeepsTo change.entry filing.old filing.new }
 {
@@ -298,14 +359,18 @@ pub fn change_volume<'a, R: Host>(
         Change::Untar => untar(rt, filing, stamp, words, early),
         Change::CpFrom(how) => copy_from_image(rt, filing, stamp, words, how, early),
         Change::Cp { contiguous } => match paths.split_last() {
-            Some((to, paths)) => end_change(
-                alloc,
-                copy_files(alloc, filing, stamp, placing_for(contiguous), paths, *to),
-            ),
+            Some((to, paths)) => {
+                let placing = placing_for(contiguous);
+                let done = copy_files(alloc, filing, stamp, placing, paths, *to);
+                end_change(alloc, filing, done)
+            }
             None => Err(Stop::Lines(String::new(alloc), Status::Words)),
         },
         Change::Mv => match paths.split_last() {
-            Some((to, paths)) => end_change(alloc, move_names(alloc, filing, paths, *to)),
+            Some((to, paths)) => {
+                let done = move_names(alloc, filing, paths, *to);
+                end_change(alloc, filing, done)
+            }
             None => Err(Stop::Lines(String::new(alloc), Status::Words)),
         },
         Change::Rm {
@@ -316,21 +381,32 @@ pub fn change_volume<'a, R: Host>(
                 entry_alone,
                 newest,
             };
-            end_change(alloc, remove_files(alloc, filing, paths, removal))
+            let done = remove_files(alloc, filing, paths, removal);
+            end_change(alloc, filing, done)
         }
-        Change::Purge { keep } => end_change(alloc, purge_files(alloc, filing, paths, keep)),
+        Change::Purge { keep } => {
+            let done = purge_files(alloc, filing, paths, keep);
+            end_change(alloc, filing, done)
+        }
         Change::Mkdir { names, owner } => {
             make_all(alloc, filing, stamp, paths, names.unwrap_or(0), owner)?;
             say_nested(rt, words);
             Ok(())
         }
-        Change::Rmdir => end_change(alloc, remove_directories(alloc, filing, paths)),
+        Change::Rmdir => {
+            let done = remove_directories(alloc, filing, paths);
+            end_change(alloc, filing, done)
+        }
         Change::Truncate { bytes } => truncate(rt, filing, words, bytes),
         Change::Append => append(rt, filing, words, early),
         Change::Chmod { protection } => {
-            end_change(alloc, give_protection(alloc, filing, paths, protection))
+            let done = give_protection(alloc, filing, paths, protection);
+            end_change(alloc, filing, done)
         }
-        Change::Chown { owner } => end_change(alloc, give_owner(alloc, filing, paths, owner)),
+        Change::Chown { owner } => {
+            let done = give_owner(alloc, filing, paths, owner);
+            end_change(alloc, filing, done)
+        }
         Change::Label { text } => label_volume(filing, text),
     }
 }
@@ -370,14 +446,36 @@ fn label_volume<'a>(filing: &mut Filing, text: &'a str) -> Result<(), Stop<'a>>
 }
 
 /// The end of a command whose change is made, or is refused.
-fn end_change<'a>(alloc: Global, done: Result<(), Failure>) -> Result<(), Stop<'a>>
+fn end_change<'a>(alloc: Global, filing: &Filing, done: Result<(), Failure>) -> Result<(), Stop<'a>>
     ensures done { OnOk result (IsOk done) }
     ensures refused { IfErr result IsRefusal }
 {
     match done {
         Ok(()) => Ok(()),
-        Err(failure) => Err(stop_failed(alloc, &failure)),
+        Err(failure) => Err(stop_unfound(alloc, filing, &failure)),
     }
+}
+
+/// Returns the end of a command whose change is refused. If its path selects nothing, the line has also the path of a file of that name in another
+/// directory.
+pub fn stop_unfound<'a>(alloc: Global, filing: &Filing, failure: &Failure) -> Stop<'a>
+    ensures refused { IsRefusal result }
+    ensures status { (s : Code) × (HasStatus failure.now.why s × (StopsWith result s ⊎ (result ≡ End.NoMemory))) }
+{
+    match unfound_text(alloc, filing, failure) {
+        Some(text) => stop_about(alloc, failure.path.as_str(), text, failure.status()),
+        None => stop_failed(alloc, failure),
+    }
+}
+
+/// Why a path selects nothing, with the path of a file of its name in another directory; None if there is none or another reason.
+fn unfound_text(alloc: Global, filing: &Filing, failure: &Failure) -> Option<String> {
+    if failure.why != Why::Path(PathFault::Nothing) {
+        return None;
+    }
+    let near = path_elsewhere(alloc, &filing.disk(), failure.path.as_str(), filing.user())?;
+    let (why, near) = (failure.why, Shown(near.as_str()));
+    format!(in alloc; "{why}; {near} has this name").ok()
 }
 
 /// Says of each directory that would lie below another than the master directory that RSX has none such.

@@ -1,16 +1,19 @@
 //! Commands in a file of the host, one per line. They run in order on the volume in memory, and then the image is saved, once.
-ghost use Rattle.std.specs.Prelude.{◌≡◌, ◌≤◌, ◌⊎◌, ◌&&◌, ◌||◌, ℕ, true, false, codes, IfErr, IfOk, IsTrue, IsUtf8, MatchOption, length, not, unwrap_or, vec_len};
+ghost use Rattle.std.specs.Prelude.{◌≡◌, ◌≤◌, ◌⊎◌, ◌&&◌, ◌||◌, ℕ, true, false, None, codes, IfErr, IfOk, IsTrue, IsUtf8, MatchOption, OnErr, OnOk, length, not, unwrap_or, vec_len};
 ghost use Rattle.std.specs.{List.list_any, Str.Lines.lines, Str.bytes_eq};
 ghost use Rattle.fs_host.specs.Faults.{is_reason};
 ghost use Rattle.fs_reads.specs.declared.stop.Stop.{Stop as End};
-ghost use Rattle.f11fs.specs.{Looks.IsAsOuter, Changed.AreAllDone, Changed.AreLinesEnded, Changed.AsksChange, Changed.IsChange, Changed.IsChanged, Changed.IsDoneBy, Changed.IsDoneNow, Changed.IsLineDone, Changed.is_refused, Readings.IsUnread, Readings.behind_mark, Readings.reads_commands, Readings.takes_input, Readings.untars_input};
+ghost use Rattle.f11fs.specs.{Stores.GainsNoCopy, Stores.ImageStays, Stores.IsMadeAndSaved, Stores.MakesLines, Looks.IsAsOuter, Changed.AreAllDone, Changed.AreLinesEnded, Changed.AsksChange, Changed.IsChange, Changed.IsChanged, Changed.IsDoneBy, Changed.IsDoneNow, Changed.IsLineDone, Changed.is_refused, Readings.AreTaken, Readings.IsUnread, Readings.behind_mark, Readings.reads_commands, Readings.takes_input, Readings.untars_input};
 ghost use Rattle.ods_shell.specs.declared.status.Status.{Status as Code};
 
-use crate::changing::{Asker, Finished, asker_of, change_volume, finish, kept_before, lock_volume};
-use crate::early::{Early, read_bytes};
+use crate::changing::{
+    Asker, Finished, asker_of, change_volume, finish, kept_before, lock_image, read_volume,
+};
+use crate::early::Early;
 use crate::host::Host;
 use crate::lines::{say_bad_line, say_bad_words, say_no_memory, say_wrong};
 use crate::looking::{look_all, only_look};
+use crate::store::Store;
 use crate::version::VERSION;
 use fs_host::{Collecting, HostFault, Noting, most_printed};
 use fs_reads::{
@@ -40,6 +43,7 @@ pub const SAVED_BEFORE: &str = "error: -o, --backup, --break-links and -n must b
 
 /// Runs the commands in this file. A refusal ends the run, and nothing is saved. With `keep_going` the run goes on, and the refused command has done
 /// nothing.
+#[tactic(auto, using(crate::proofs::Taking::none_taken))]
 pub fn obey_file<'a, R: Host>(
     rt: &R,
     words: &Words<'a>,
@@ -56,30 +60,58 @@ pub fn obey_file<'a, R: Host>(
     }
     let mut early = Early::of(rt, words.image);
     read_early(rt, words, text, &mut early)?;
-    let (mut locked, volume) = lock_volume(rt, words, keep_going)?;
+    let mut store = lock_image(rt, words)?;
+    let printed = RefCell::new(Vec::new(rt.alloc()));
+    let saved = save_lines(
+        rt, &mut store, words, file, keep_going, text, &mut early, &printed,
+    );
+    let written = write_printed(rt, printed.into_inner().as_slice());
+    match (saved?, written) {
+        ((status, None), _) => Ok(status),
+        ((status, Some(Finished::Told(later) | Finished::Saved(later))), Ok(())) => {
+            Ok(status.or(later))
+        }
+        ((_, Some(Finished::Told(_))), Err(why)) => Err(Stop::Unwritten(why)),
+        ((_, Some(Finished::Saved(_))), Err(why)) => Err(Stop::SavedUnwritten(why)),
+    }
+}
+
+/// Runs the commands of this text on a locked image, and saves the result. Returns the status of the lines. If a line ends the run, nothing is saved.
+fn save_lines<'a, R: Host, S: Store>(
+    rt: &R,
+    store: &mut S,
+    words: &Words<'a>,
+    file: &'a str,
+    keep_going: bool,
+    text: &str,
+    early: &mut Early,
+    printed: &RefCell<Vec<u8>>,
+) -> Result<(Status, Option<Finished>), Stop<'a>>
+    requires { AreTaken (R.gives rt.now) early.old.taken.items }
+    ensures told { words.now.saving.only_tells ≡ true → ImageStays (S.has store.old) (S.has store.new) × GainsNoCopy (S.has_copy store.old) (S.has_copy store.new) }
+    // What is saved is what all lines make of the blocks that the image had.
+    ensures saved { words.now.saving.only_tells ≡ false → IfOk result (λ ended. MatchOption ended.1 (ImageStays (S.has store.old) (S.has store.new) × GainsNoCopy (S.has_copy store.old) (S.has_copy store.new))
+        (λ _. IsMadeAndSaved (MakesLines (R.gives rt.now) keep_going words.now text.now) words.now.saving.out (S.has store.old) (S.has store.new) (S.has_copy store.new))) }
+    // If the run fails, the image has its former blocks, or those that all lines make.
+    ensures kept { OnErr result (ImageStays (S.has store.old) (S.has store.new) ⊎ IsMadeAndSaved (MakesLines (R.gives rt.now) keep_going words.now text.now) None (S.has store.old) (S.has store.new) (S.has_copy store.new)) }
+{
+    let volume = read_volume(rt, store, words, keep_going)?;
     let asker = asker_of(rt, words)?;
     let before = kept_before(words, &volume)?;
-    let printed = RefCell::new(Vec::new(rt.alloc()));
     let run = Run {
         asker,
         outer: words,
         file,
         keep_going,
-        behind: locked.behind().len() as u64,
+        behind: store.behind().len() as u64,
         most: most_printed(volume.image().len()),
     };
-    let (status, done) = obey_text(rt, &run, &printed, volume, text, &mut early)?;
+    let (status, done) = obey_text(rt, &run, printed, volume, text, early)?;
     let Some(filing) = done else {
-        let _ = write_printed(rt, printed.into_inner().as_slice());
-        return Ok(status);
+        return Ok((status, None));
     };
-    let finished = finish(rt, words, &mut locked, &before, filing.mounted());
-    let written = write_printed(rt, printed.into_inner().as_slice());
-    match (finished?, written) {
-        (Finished::Told(later) | Finished::Saved(later), Ok(())) => Ok(status.or(later)),
-        (Finished::Told(_), Err(why)) => Err(Stop::Unwritten(why)),
-        (Finished::Saved(_), Err(why)) => Err(Stop::SavedUnwritten(why)),
-    }
+    let finished = finish(rt, words, store, &before, filing.mounted())?;
+    Ok((status, Some(finished)))
 }
 
 /// What is the same for each line of a run.
@@ -102,7 +134,7 @@ fn commands_in<'a, R: Host>(rt: &R, file: &'a str) -> Result<Vec<u8>, Stop<'a>>
     ensures few { IfOk result (λ bytes. vec_len bytes ≤ MOST) }
     ensures err { IfErr result (λ stop. (stop ≡ End.Word file.entry (WordFault.ManyBytes MOST)) ⊎ IsUnread file.entry stop) }
 {
-    match read_bytes(rt, file, MOST) {
+    match rt.bytes_of(file, MOST) {
         Ok(bytes) => Ok(bytes),
         Err(HostFault::TooLarge) => Err(Stop::Word(file, WordFault::ManyBytes(MOST))),
         Err(fault) => Err(Stop::Word(file, WordFault::Unread(fault))),
@@ -135,7 +167,10 @@ fn read_early<'a, R: Host>(
     outer: &Words<'_>,
     text: &str,
     early: &mut Early,
-) -> Result<(), Stop<'a>> {
+) -> Result<(), Stop<'a>>
+    requires { AreTaken (R.gives rt.now) early.old.taken.items }
+    ensures { OnOk result (AreTaken (R.gives rt.now) early.new.taken.items) }
+{
     for line in text.lines() {
         read_line_early(rt, outer, line, early)?;
     }
@@ -148,7 +183,10 @@ fn read_line_early<'a, R: Host>(
     outer: &Words<'_>,
     line: &str,
     early: &mut Early,
-) -> Result<(), Stop<'a>> {
+) -> Result<(), Stop<'a>>
+    requires { AreTaken (R.gives rt.now) early.old.taken.items }
+    ensures { OnOk result (AreTaken (R.gives rt.now) early.new.taken.items) }
+{
     let words = match line_words(rt.alloc(), line) {
         Ok(words) => words,
         Err(_) => return Ok(()),
@@ -173,9 +211,10 @@ fn obey_text<'a, R: Host>(
     text: &str,
     early: &mut Early,
 ) -> Result<(Status, Option<Filing>), Stop<'a>>
+    requires { AreTaken (R.gives rt.now) early.old.taken.items }
     ensures { IfOk result (λ done. MatchOption done.1
-        (AreLinesEnded run.now.outer.now.image run.now.asker.stamp run.now.asker.user run.now.keep_going (lines text.now) done.0 (record { image = volume.image; layout = volume.layout; user = run.now.asker.user }))
-        (AreAllDone run.now.outer.now.image run.now.asker.stamp run.now.asker.user run.now.keep_going (lines text.now) done.0 (record { image = volume.image; layout = volume.layout; user = run.now.asker.user }))) }
+        (AreLinesEnded (R.gives rt.now) run.now.outer.now.image run.now.asker.stamp run.now.asker.user run.now.keep_going (lines text.now) done.0 (record { image = volume.image; layout = volume.layout; user = run.now.asker.user }))
+        (AreAllDone (R.gives rt.now) run.now.outer.now.image run.now.asker.stamp run.now.asker.user run.now.keep_going (lines text.now) done.0 (record { image = volume.image; layout = volume.layout; user = run.now.asker.user }))) }
 {
     let mut filing = Filing::new(rt.alloc(), volume, run.asker.user)?;
     let (status, goes_on) = obey_lines(rt, run, printed, &mut filing, text, early);
@@ -196,11 +235,12 @@ fn obey_lines<R: Host>(
     text: &str,
     early: &mut Early,
 ) -> (Status, bool)
+    requires { AreTaken (R.gives rt.now) early.old.taken.items }
     // Where the run goes on, each line has left the volume as it was, or has made the change whole that its words ask for. The status is that of the
     // first line that is not done.
-    ensures done { result.1 ≡ true → AreAllDone run.now.outer.now.image run.now.asker.stamp run.now.asker.user run.now.keep_going (lines text.now) result.0 filing.old filing.new }
+    ensures done { result.1 ≡ true → AreAllDone (R.gives rt.now) run.now.outer.now.image run.now.asker.stamp run.now.asker.user run.now.keep_going (lines text.now) result.0 filing.old filing.new }
     // Where it does not, the status is that of the line that ended it.
-    ensures ended { result.1 ≡ false → AreLinesEnded run.now.outer.now.image run.now.asker.stamp run.now.asker.user run.now.keep_going (lines text.now) result.0 filing.old }
+    ensures ended { result.1 ≡ false → AreLinesEnded (R.gives rt.now) run.now.outer.now.image run.now.asker.stamp run.now.asker.user run.now.keep_going (lines text.now) result.0 filing.old }
 {
     let mut status = Status::Done;
     let mut number = 0usize;
@@ -256,7 +296,9 @@ fn obey_line<R: Host>(
     line: &str,
     early: &mut Early,
 ) -> (Status, bool)
-    ensures done { result.1 ≡ true → IsLineDone run.now.outer.now.image run.now.asker.stamp run.now.asker.user line.now result.0 filing.old filing.new }
+    requires { AreTaken (R.gives rt.now) early.old.taken.items }
+    ensures taken { AreTaken (R.gives rt.now) early.new.taken.items }
+    ensures done { result.1 ≡ true → IsLineDone (R.gives rt.now) run.now.outer.now.image run.now.asker.stamp run.now.asker.user line.now result.0 filing.old filing.new }
     ensures ended { result.1 ≡ false → AsksChange run.now.outer.now.image line.now }
     ensures refused { result.1 ≡ false → is_refused result.0 ≡ true }
 {
@@ -320,8 +362,10 @@ fn obey_words<R: Host>(
     own: Words<'_>,
     early: &mut Early,
 ) -> (Status, bool)
+    requires { AreTaken (R.gives rt.now) early.old.taken.items }
+    ensures taken { AreTaken (R.gives rt.now) early.new.taken.items }
     // Where the volume stands it is as it was, or the change of the command is made whole.
-    ensures done { result.1 ≡ true → IsDoneBy own.entry.action own.entry.paths.items (unwrap_or own.entry.stamp run.now.asker.stamp) (unwrap_or own.entry.user run.now.asker.user) result.0 filing.old filing.new }
+    ensures done { result.1 ≡ true → IsDoneBy (R.gives rt.now) own.entry.action own.entry.paths.items (unwrap_or own.entry.stamp run.now.asker.stamp) (unwrap_or own.entry.user run.now.asker.user) result.0 filing.old filing.new }
     ensures ended { result.1 ≡ false → IsChange own.entry.action }
     ensures refused { result.1 ≡ false → is_refused result.0 ≡ true }
 {
@@ -357,7 +401,9 @@ fn obey_action<R: Host>(
     own: &Words<'_>,
     early: &mut Early,
 ) -> (Status, bool)
-    ensures done { result.1 ≡ true → IsDoneNow own.now.action own.now.paths.items stamp result.0 filing.old filing.new }
+    requires { AreTaken (R.gives rt.now) early.old.taken.items }
+    ensures taken { AreTaken (R.gives rt.now) early.new.taken.items }
+    ensures done { result.1 ≡ true → IsDoneNow (R.gives rt.now) own.now.action own.now.paths.items stamp result.0 filing.old filing.new }
     ensures ended { result.1 ≡ false → IsChange own.now.action }
     ensures refused { result.1 ≡ false → is_refused result.0 ≡ true }
 {
@@ -412,8 +458,10 @@ fn change_or_keep<'a, R: Host>(
     change: Change<'a>,
     early: &mut Early,
 ) -> (Status, bool)
+    requires { AreTaken (R.gives rt.now) early.old.taken.items }
+    ensures taken { AreTaken (R.gives rt.now) early.new.taken.items }
     // Where the volume stands, the change is made, or it is refused and nothing is.
-    ensures done { result.1 ≡ true → ((result.0 ≡ Code.Done) × IsChanged change.entry words.now.paths.items stamp filing.old filing.new) ⊎ ((is_refused result.0 ≡ true) × (filing.new ≡ filing.old)) }
+    ensures done { result.1 ≡ true → ((result.0 ≡ Code.Done) × IsChanged (R.gives rt.now) change.entry words.now.paths.items stamp filing.old filing.new) ⊎ ((is_refused result.0 ≡ true) × (filing.new ≡ filing.old)) }
     ensures refused { result.1 ≡ false → is_refused result.0 ≡ true }
 {
     let Ok(kept) = filing.mounted().copy() else {

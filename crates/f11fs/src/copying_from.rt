@@ -21,7 +21,7 @@ use std::rt::Files;
 use thiserror::Error;
 
 /// Copies files of the volume of another image, as the words specify. Rights on the other volume are checked only if the words specify a user.
-pub fn copy_from_image<'a, R: Files<File = File> + AllocGlobal + Eprint>(
+pub(crate) fn copy_from_image<'a, R: Files<File = File> + AllocGlobal + Eprint>(
     rt: &R,
     filing: &mut Filing,
     stamp: Stamp,
@@ -29,7 +29,8 @@ pub fn copy_from_image<'a, R: Files<File = File> + AllocGlobal + Eprint>(
     how: FromWords<'a>,
     early: &mut Early,
 ) -> Result<(), Stop<'a>>
-    ensures done { OnOk result (CopiesBelow how.entry.below (is_some words.now.user) how.entry.contiguous how.entry.next words.now.paths.items stamp filing.old filing.new) }
+    ensures taken { early.new.taken ≡ early.old.taken }
+    ensures done { OnOk result (CopiesBelow how.entry.below (is_some words.now.user) how.entry.contiguous how.entry.next how.entry.owners words.now.paths.items stamp filing.old filing.new) }
     ensures refused { IfErr result IsRefusal }
 {
     if how.below {
@@ -48,7 +49,8 @@ fn copy_over<'a, R: Files<File = File> + AllocGlobal + Eprint>(
     how: FromWords<'a>,
     early: &mut Early,
 ) -> Result<(), Stop<'a>>
-    ensures done { OnOk result (CopiesOver (is_some words.now.user) how.entry.contiguous how.entry.next words.now.paths.items stamp filing.old filing.new) }
+    ensures taken { early.new.taken ≡ early.old.taken }
+    ensures done { OnOk result (CopiesOver (is_some words.now.user) how.entry.contiguous how.entry.next how.entry.owners words.now.paths.items stamp filing.old filing.new) }
     ensures refused { IfErr result IsRefusal }
 {
     let Some((to, paths)) = words.paths.as_slice().split_last() else {
@@ -60,6 +62,7 @@ fn copy_over<'a, R: Files<File = File> + AllocGlobal + Eprint>(
         reader_for(words.user.is_some(), user),
         how.contiguous,
         how.next,
+        how.owners,
     );
     let disk = opened.disk();
     match copy_from(rt.alloc(), filing, &disk, stamp, how, paths, *to) {
@@ -78,7 +81,8 @@ fn copy_tree_over<'a, R: Files<File = File> + AllocGlobal + Eprint>(
     how: FromWords<'a>,
     early: &mut Early,
 ) -> Result<(), Stop<'a>>
-    ensures done { OnOk result (CopiesTreeOver (is_some words.now.user) how.entry.contiguous how.entry.next words.now.paths.items stamp filing.old filing.new) }
+    ensures taken { early.new.taken ≡ early.old.taken }
+    ensures done { OnOk result (CopiesTreeOver (is_some words.now.user) how.entry.contiguous how.entry.next how.entry.owners words.now.paths.items stamp filing.old filing.new) }
     ensures refused { IfErr result IsRefusal }
 {
     let Some((to, paths)) = words.paths.as_slice().split_last() else {
@@ -96,6 +100,7 @@ fn copy_tree_over<'a, R: Files<File = File> + AllocGlobal + Eprint>(
         reader_for(words.user.is_some(), user),
         how.contiguous,
         how.next,
+        how.owners,
     );
     let disk = opened.disk();
     match copy_tree_from(rt.alloc(), filing, &disk, stamp, how, *path, *to) {
@@ -110,6 +115,7 @@ fn open_other<'a, R: Files<File = File> + AllocGlobal + Eprint>(
     image: &'a str,
     early: &mut Early,
 ) -> Result<Readable, Stop<'a>>
+    ensures taken { early.new.taken ≡ early.old.taken }
     // What was read early is copied from.
     ensures early { (place : ℕ) (one : AnImage) → first_image image.entry.now early.old.images.items ≡ Some place → slice_get early.old.images.items place ≡ Some one → IfOk result (λ volume. IsReadableOf one.opened volume) }
     ensures err { IfErr result IsRefusal }
@@ -124,7 +130,8 @@ fn taken_or_opened<R: Files<File = File> + AllocGlobal>(
     path: &str,
     early: &mut Early,
 ) -> Result<(Image, Option<Extent>), VolumeFault>
-    ensures { (place : ℕ) (one : AnImage) → first_image path.now early.old.images.items ≡ Some place → slice_get early.old.images.items place ≡ Some one → result ≡ one.opened }
+    ensures taken { early.new.taken ≡ early.old.taken }
+    ensures early { (place : ℕ) (one : AnImage) → first_image path.now early.old.images.items ≡ Some place → slice_get early.old.images.items place ≡ Some one → result ≡ one.opened }
 {
     match early.take_image(path) {
         Some(opened) => opened,
@@ -140,8 +147,8 @@ fn reader_for(is_said: bool, user: Uic) -> Option<Uic>
 }
 
 /// How files are copied, by what the words say.
-fn how_to_copy(reader: Option<Uic>, contiguous: Option<bool>, next: bool) -> CopyFrom
-    ensures { result ≡ copying_said reader contiguous next }
+fn how_to_copy(reader: Option<Uic>, contiguous: Option<bool>, next: bool, owners: bool) -> CopyFrom
+    ensures { result ≡ copying_said reader contiguous next owners }
 {
     let placing = match contiguous {
         Some(contiguous) => Some(placing_for(contiguous)),
@@ -151,6 +158,7 @@ fn how_to_copy(reader: Option<Uic>, contiguous: Option<bool>, next: bool) -> Cop
         reader,
         placing,
         next,
+        owners,
     }
 }
 

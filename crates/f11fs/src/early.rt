@@ -1,21 +1,20 @@
 //! Host files that are not plain files, such as pipes and standard input. `put`, `append`, `untar` and `cp --from` read them before the image is
 //! locked, so that nobody waits under the lock.
-ghost use Rattle.std.specs.Prelude.{◌≡◌, ◌<◌, ◌≤◌, ◌-◌, ◌∷◌, ◌++◌, ◌⊎◌, ℕ, [], MatchOption, None, Some, IfErr, IfOk, IfSome, IsTrue, MatchResult, OnOk, drop, length, min, slice_get, vec_len};
-ghost use Rattle.fs_host.specs.Faults.{is_reason};
+ghost use Rattle.std.specs.Prelude.{◌≡◌, ◌<◌, ◌≤◌, ◌-◌, ◌∷◌, ◌++◌, ◌⊎◌, ℕ, [], MatchOption, None, Some, IfNone, IfOk, IfSome, MatchResult, OnOk, drop, length, min, slice_get, string_bytes, vec_len};
 ghost use Rattle.std.specs.List.{remove};
-ghost use Rattle.f11fs.specs.{Changed.host_count, Changed.hosts_among, Readings.AddsImage, Readings.AddsReading, Readings.MayAddImage, Readings.MayAddReading, Readings.MayAddReadings, Readings.ReadsNothing, Readings.first_at, Readings.first_image};
+ghost use Rattle.f11fs.specs.{Changed.host_count, Changed.hosts_among, Readings.AddsImage, Readings.AddsReading, Readings.AreTaken, Readings.MayAddImage, Readings.MayAddReading, Readings.MayAddReadings, Readings.ReadsNothing, Readings.first_at, Readings.first_image};
 ghost use Rattle.f11fs.specs.declared.early.OtherImage.{OtherImage as AnImage};
 ghost use Rattle.f11fs.specs.declared.early.Taken.{Taken as Read};
 
+use crate::host::Host;
 use crate::untarring::archive_among;
-use fs_host::{Extent, HostFault, Layers, read_host, read_some};
+use fs_host::{Extent, HostFault, Layers};
 use fs_reads::{Stop, VolumeFault, open_image};
 use fs_words::{Action, Change, Words};
 use ods_base::{Image, MAX_BYTES};
 use std::alloc::AllocError;
 use std::fs;
 use std::fs::File;
-use std::io::Input;
 use std::rt::Files;
 
 /// What was read of a host file.
@@ -61,12 +60,15 @@ impl Early {
 
     /// Reads the sources of a `put`, an `append` or an `untar` that are not plain files, and the other image of a `cp`. The reason of a failure is kept
     /// for that command.
-    pub fn read_words<'a, R: Files<File = File> + Input + AllocGlobal>(
+    #[tactic(auto, using(crate::proofs::Taking::taken_on, crate::proofs::Taking::taken_one))]
+    pub(crate) fn read_words<'a, R: Host>(
         &mut self,
         rt: &R,
         words: &Words<'_>,
     ) -> Result<(), Stop<'a>>
-        ensures { ReadsNothing words.now.action → self.new ≡ self.old }
+        requires { AreTaken (R.gives rt.now) self.old.taken.items }
+        ensures nothing { ReadsNothing words.now.action → self.new ≡ self.old }
+        ensures taken { OnOk result (AreTaken (R.gives rt.now) self.new.taken.items) }
     {
         match words.action {
             Action::Change(Change::Put(_)) => self.read_all(rt, hosts(words.paths.as_slice())),
@@ -84,12 +86,8 @@ impl Early {
     }
 
     /// Reads each of these that is not a plain file.
-    fn read_all<'a, R: Files<File = File> + Input + AllocGlobal>(
-        &mut self,
-        rt: &R,
-        paths: &[&str],
-    ) -> Result<(), Stop<'a>>
-        ensures { OnOk result (MayAddReadings paths.now self.old self.new) }
+    fn read_all<'a, R: Host>(&mut self, rt: &R, paths: &[&str]) -> Result<(), Stop<'a>>
+        ensures { OnOk result (MayAddReadings (R.gives rt.now) paths.now self.old self.new) }
     {
         for path in paths {
             self.read_stream(rt, *path)?;
@@ -98,12 +96,8 @@ impl Early {
     }
 
     /// Reads the file at this path, if it is not a plain file.
-    fn read_stream<'a, R: Files<File = File> + Input + AllocGlobal>(
-        &mut self,
-        rt: &R,
-        path: &str,
-    ) -> Result<(), Stop<'a>>
-        ensures { OnOk result (MayAddReading path.now self.old self.new) }
+    fn read_stream<'a, R: Host>(&mut self, rt: &R, path: &str) -> Result<(), Stop<'a>>
+        ensures { OnOk result (MayAddReading (R.gives rt.now) path.now self.old self.new) }
     {
         if path == "-" || is_stream(rt, path) {
             return self.read(rt, path);
@@ -112,17 +106,13 @@ impl Early {
     }
 
     /// Reads a host file.
-    fn read<'a, R: Files<File = File> + Input + AllocGlobal>(
-        &mut self,
-        rt: &R,
-        path: &str,
-    ) -> Result<(), Stop<'a>>
-        ensures { OnOk result (AddsReading path.now self.old self.new) }
+    fn read<'a, R: Host>(&mut self, rt: &R, path: &str) -> Result<(), Stop<'a>>
+        ensures { OnOk result (AddsReading (R.gives rt.now) path.now self.old self.new) }
     {
         let Some(room) = self.room else {
             return Ok(());
         };
-        let bytes = read_bytes(rt, path, room);
+        let bytes = rt.bytes_of(path, room);
         self.room = Some(room_behind(room, &bytes));
         let path = String::from_str(rt.alloc(), path)?;
         Ok(push_taken(&mut self.taken, Taken { path, bytes })?)
@@ -156,7 +146,11 @@ impl Early {
     }
 
     /// Removes and returns the first unused image that was read early from this path.
-    pub fn take_image(&mut self, path: &str) -> Option<Result<(Image, Option<Extent>), VolumeFault>>
+    pub(crate) fn take_image(
+        &mut self,
+        path: &str,
+    ) -> Option<Result<(Image, Option<Extent>), VolumeFault>>
+        ensures taken { self.new.taken ≡ self.old.taken }
         ensures none { first_image path.now self.old.images.items ≡ None → (result ≡ None) × (self.new ≡ self.old) }
         ensures some { (place : ℕ) (one : AnImage) → first_image path.now self.old.images.items ≡ Some place → slice_get self.old.images.items place ≡ Some one → (result ≡ Some one.opened) × (self.new.images.items ≡ remove self.old.images.items place) }
     {
@@ -167,7 +161,9 @@ impl Early {
     }
 
     /// Removes and returns the first unused contents of a host file that were read early.
-    pub fn take(&mut self, path: &str) -> Option<Result<Vec<u8>, HostFault>>
+    pub(crate) fn take(&mut self, path: &str) -> Option<Result<Vec<u8>, HostFault>>
+        ensures left { IfNone result (self.new ≡ self.old) }
+        ensures out { IfSome result (λ bytes. (place : ℕ) × (one : Read) × (slice_get self.old.taken.items place ≡ Some one) × (bytes ≡ one.bytes) × (string_bytes one.path ≡ path.now) × (self.new.taken.items ≡ remove self.old.taken.items place)) }
         ensures none { first_at path.now self.old.taken.items ≡ None → (result ≡ None) × (self.new ≡ self.old) }
         ensures some { (place : ℕ) (one : Read) → first_at path.now self.old.taken.items ≡ Some place → slice_get self.old.taken.items place ≡ Some one → (result ≡ Some one.bytes) × (self.new.taken.items ≡ remove self.old.taken.items place) }
     {
@@ -223,22 +219,6 @@ fn image_at(images: &[OtherImage], path: &str) -> Option<usize>
     ensures within { IfSome result (λ place. place < length images.now) }
 {
     images.iter().position(|one| one.path.as_str() == path)
-}
-
-/// Returns the bytes of a host file, or of standard input, if there are no more than `most`.
-pub fn read_bytes<R: Files<File = File> + Input + AllocGlobal>(
-    rt: &R,
-    path: &str,
-    most: u64,
-) -> Result<Vec<u8>, HostFault>
-    ensures few { IfOk result (λ bytes. vec_len bytes ≤ most) }
-    ensures err { IfErr result (λ fault. IsTrue (is_reason fault)) }
-{
-    if path == "-" {
-        read_some(rt.alloc(), &mut rt.reader(), most)
-    } else {
-        read_host(rt, path, most)
-    }
 }
 
 /// How many bytes may be read behind these.

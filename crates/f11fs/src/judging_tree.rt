@@ -2,8 +2,8 @@
 ghost use Rattle.std.specs.Prelude.{◌≡◌, ◌++◌, ◌∷◌, [], false, true, is_some, IfErr, IfOk, MatchBool, MatchOption, OnOk, string_bytes};
 ghost use Rattle.std.specs.List.{All};
 ghost use Rattle.ods_upkeep.specs.TreeNames.{SaysPlace};
-ghost use Rattle.f11fs.specs.{Changed.IsRefusal, Changed.is_refused, TreePut.IsPlaced};
-ghost use Rattle.f11fs.specs.TreeFaults.{AddsLine, AreKept, HasTreeStatus, IsFault, IsHostPath, IsKept, IsLeft, IsUnplaced, fault_of_kind, may_be_left, tree_line};
+ghost use Rattle.f11fs.specs.Changed.{IsRefusal, is_refused};
+ghost use Rattle.f11fs.specs.TreeFaults.{AddsLine, AreKept, HasTreeStatus, IsFault, IsHostPath, IsKept, IsLeft, IsPlaced, IsUnplaced, fault_of_kind, may_be_left, tree_line};
 
 use crate::host::Host;
 use fs_host::{HostFault, Shown, TreeEntry, TreeKind};

@@ -1,16 +1,18 @@
 //! `init`: the image of a new volume.
-ghost use Rattle.std.specs.Prelude.{◌≡◌, false, true, IfErr, IfOk, IfSome, IsTrue, OnOk, is_some};
+ghost use Rattle.std.specs.Prelude.{◌≡◌, ℕ, List, [], false, true, IfErr, IfOk, IfSome, IsTrue, OnErr, OnOk, is_some};
 ghost use Rattle.fs_host.specs.Faults.{may_end_copying};
 ghost use Rattle.fs_host.specs.declared.faults.SaveFault.{SaveFault as Fault};
 ghost use Rattle.fs_reads.specs.declared.stop.Stop.{Stop as End};
-ghost use Rattle.f11fs.specs.{Orders.HasOtherBlocks, Saved.IsSavedStatus};
+ghost use Rattle.f11fs.specs.{Orders.HasOtherBlocks, Saved.IsSavedStatus, Stores.GainsNoImage};
+ghost use Rattle.ods_init.specs.New.{IsNewVolume};
 ghost use Rattle.ods_order.specs.Order.{block_count};
 ghost use Rattle.ods_shell.specs.declared.status.Status.{Status as Code};
 
 use crate::changing::{asker_of, say_unfinished};
 use crate::host::Host;
+use crate::images::{HostImages, Images};
 use crate::orders::new_order;
-use fs_host::{SaveFault, Shown, write_ordered};
+use fs_host::{SaveFault, Shown};
 use fs_reads::{Stop, WordFault, send, stop_about};
 use fs_words::Words;
 use ods_base::Image;
@@ -54,10 +56,28 @@ pub fn init_image<'a, R: Host>(
         owner: asker.user,
         stamp: asker.stamp,
     };
-    match init(rt.alloc(), &new) {
-        Ok(image) => write_image(rt, words, &image, order),
+    make_volume(rt, &mut HostImages { rt }, words, &new, order)
+}
+
+/// Makes the image of a new volume, or only tells of it.
+fn make_volume<'a, R: Host, H: Images>(
+    rt: &R,
+    images: &mut H,
+    words: &Words<'a>,
+    new: &NewVolume,
+    order: Option<Order>,
+) -> Result<Status, Stop<'a>>
+    ensures status { IfOk result IsSavedStatus }
+    ensures told { words.now.saving.only_tells ≡ true → IfOk result (λ s. s ≡ Code.Done) × (images.new ≡ images.old) }
+    // The new image has the blocks of a new volume of this kind.
+    ensures made { words.now.saving.only_tells ≡ false → OnOk result ((blocks : List (List ℕ)) × (IsNewVolume new.now blocks × H.made images.new words.now.image.now order blocks [])) }
+    // If that fails, there is no new image.
+    ensures kept { OnErr result (GainsNoImage (H.made images.old) (H.made images.new)) }
+{
+    match init(rt.alloc(), new) {
+        Ok(image) => write_image(rt, images, words, &image, order),
         Err(InitFault::NoMemory) => Err(Stop::NoMemory),
-        Err(fault) => Err(stop_about(rt.alloc(), path, fault, Status::Words)),
+        Err(fault) => Err(stop_about(rt.alloc(), words.image, fault, Status::Words)),
     }
 }
 
@@ -77,14 +97,17 @@ fn check_blocks<'a>(path: &'a str, order: Option<Order>, blocks: u32) -> Result<
 }
 
 /// Writes a new image, or only tells of it.
-fn write_image<'a, R: Host>(
+fn write_image<'a, R: Host, H: Images>(
     rt: &R,
+    images: &mut H,
     words: &Words<'a>,
     image: &Image,
     order: Option<Order>,
 ) -> Result<Status, Stop<'a>>
     ensures status { IfOk result IsSavedStatus }
-    ensures told { words.now.saving.only_tells ≡ true → IfOk result (λ s. s ≡ Code.Done) }
+    ensures told { words.now.saving.only_tells ≡ true → IfOk result (λ s. s ≡ Code.Done) × (images.new ≡ images.old) }
+    ensures made { words.now.saving.only_tells ≡ false → OnOk result (H.made images.new words.now.image.now order image.now []) }
+    ensures kept { OnErr result (GainsNoImage (H.made images.old) (H.made images.new)) }
     ensures err { words.now.saving.only_tells ≡ false → IfErr result (λ stop. (fault : Fault) × IsTrue (may_end_copying (is_some order) fault) × (stop ≡ End.Word words.now.image (WordFault.Unsaved fault))) }
 {
     let path = words.image;
@@ -97,7 +120,7 @@ fn write_image<'a, R: Host>(
         };
         return send(rt, text.as_str());
     }
-    match write_ordered(rt, path, image, &[], order) {
+    match images.write(path, image, &[], order) {
         Ok(wanting) => Ok(say_unfinished(rt, path, wanting)),
         Err(fault) => Err(Stop::Word(path, WordFault::Unsaved(fault))),
     }

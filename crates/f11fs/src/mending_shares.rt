@@ -1,5 +1,5 @@
 //! The repairs of `repair share` on the blocks of an image. The runs of a file that share blocks with earlier files get blocks of their own.
-ghost use Rattle.std.specs.Prelude.{◌≡◌, ◌≢◌, ◌⊎◌, ◌++◌, ◌∷◌, [], ℕ, IfOk, MatchBool, MatchOption, OnOk, take, true};
+ghost use Rattle.std.specs.Prelude.{◌≡◌, ◌≢◌, ◌⊎◌, ◌++◌, ◌∷◌, [], ℕ, IfOk, IfSome, MatchBool, MatchOption, OnOk, take, true};
 ghost use Rattle.std.specs.List.{All, Contains};
 ghost use Rattle.ods_mount.specs.Faults.{HasBadIndex};
 ghost use Rattle.ods_check.specs.declared.fault_line.IndexFault.{IndexFault};
@@ -19,6 +19,9 @@ use std::alloc::{AllocError, Global};
 
 /// Of at most so many files a run moves blocks: each takes a pass over the image.
 const MOST_FILES: usize = 100;
+
+/// The number of INDEXF.SYS.
+const INDEX: u16 = 1;
 
 /// Returns the image in which runs with blocks in use twice have blocks of their own, if this repair is requested.
 pub fn mend_share<'a>(
@@ -88,7 +91,8 @@ fn is_index_fault(line: &FaultLine) -> bool
     }
 }
 
-/// The later files of the pairs of these lines, from the highest number down as the lines go, as many as one run moves. The others are told.
+/// The later files of the pairs of these lines, as many as one run moves. The others are told. Files that share a block with INDEXF.SYS come first: while
+/// such a block is shared, the file whose header it is cannot move. The others come from the highest number down, as the lines go.
 fn sharing_files(
     alloc: Global,
     lines: &[FaultLine],
@@ -97,14 +101,49 @@ fn sharing_files(
     ensures each { IfOk result (λ ns. All (IsToldAsShared lines.now) ns.items) }
     ensures whole { IfOk result (λ ns. Wholly report.old.is_left report.new.is_left ((n : ℕ) → IsToldAsShared lines.now n → Contains ns.items n)) }
 {
-    let mut files = Vec::new(alloc);
+    let mut files = index_sharers(alloc, lines)?;
     for k in 0..lines.len() {
         push_sharing(alloc, &mut files, &lines[lines.len() - 1 - k], report)?;
     }
     Ok(files)
 }
 
-/// Adds the later file of a pair that a line tells of, where it is not the last one there and there are not yet too many.
+/// The files that share a block with INDEXF.SYS by these lines, from the highest number down, as many as one run moves.
+fn index_sharers(alloc: Global, lines: &[FaultLine]) -> Result<Vec<u16>, AllocError>
+    ensures { IfOk result (λ ns. All (IsToldAsShared lines.now) ns.items) }
+{
+    let mut files = Vec::new(alloc);
+    for k in 0..lines.len() {
+        push_index_sharer(&mut files, &lines[lines.len() - 1 - k])?;
+    }
+    Ok(files)
+}
+
+/// Adds the file that shares a block with INDEXF.SYS by a line, where it is not there and there are not yet too many.
+fn push_index_sharer(files: &mut Vec<u16>, line: &FaultLine) -> Result<(), AllocError>
+    ensures { OnOk result ((files.new.items ≡ files.old.items) ⊎ ((n : ℕ) × TellsLater line.now n × (files.new.items ≡ files.old.items ++ n ∷ []))) }
+{
+    let Some(file) = index_sharer(line) else {
+        return Ok(());
+    };
+    if is_there(files, file) || files.len() >= MOST_FILES {
+        return Ok(());
+    }
+    files.push(file)?;
+    Ok(())
+}
+
+/// The file that shares a block with INDEXF.SYS, where a line tells of one.
+fn index_sharer(line: &FaultLine) -> Option<u16>
+    ensures { IfSome result (TellsLater line.now) }
+{
+    match line {
+        FaultLine::Shared(INDEX, later, _, _) => Some(*later),
+        _ => None,
+    }
+}
+
+/// Adds the later file of a pair that a line tells of, where it is not there and there are not yet too many.
 fn push_sharing(
     alloc: Global,
     files: &mut Vec<u16>,
@@ -117,7 +156,7 @@ fn push_sharing(
     let Some(file) = later_file(line) else {
         return Ok(());
     };
-    if is_last(files, file) {
+    if is_there(files, file) {
         return Ok(());
     }
     if files.len() >= MOST_FILES {
@@ -127,14 +166,11 @@ fn push_sharing(
     Ok(())
 }
 
-/// Whether this file is the last one of these.
-fn is_last(files: &[u16], file: u16) -> bool
+/// Whether this file is one of these.
+fn is_there(files: &[u16], file: u16) -> bool
     ensures { result ≡ true → Contains files.now file }
 {
-    match files.last() {
-        Some(last) => *last == file,
-        None => false,
-    }
+    files.contains(&file)
 }
 
 /// The later file of the pair that a line tells of.

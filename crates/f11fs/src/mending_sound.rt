@@ -1,6 +1,8 @@
 //! The repairs that require a sound volume: entries that name no file, lost files, and blocks that no file holds.
 ghost use Rattle.std.specs.Prelude.{◌≡◌, IfOk, IfSome, MatchBool, MatchOption, OnOk, true};
-ghost use Rattle.f11fs.specs.Mended.{EntersAll, EntersLost, EntersNone, EntersNot, HasDirectory, HasNoLost, IsDirectoryFound, IsDirectoryOf, IsMountedWhollyMended, IsNoDirectoryMade, IsOneDirectory, IsSoundWhollyMended, IsWhollyCleared, IsWhollyFreed, LeavesEntered, LeavesFree, LeavesLost, LeavesMounted, LeavesNames, LeavesSound, LosesNone, Wholly};
+ghost use Rattle.ods_filing.specs.Amended.{HasProtection};
+ghost use Rattle.ods_repair.specs.Asked.{word_of};
+ghost use Rattle.f11fs.specs.Mended.{EntersAll, EntersLost, EntersNone, EntersNot, HasDirectory, HasNoLost, IsDirectoryFound, IsDirectoryOf, IsMountedWhollyMended, IsNoDirectoryMade, IsOneDirectory, IsSoundWhollyMended, IsWhollyFreed, LeavesEntered, LeavesFree, LeavesLost, LeavesMounted, LeavesNames, LeavesSound, LosesNone, Wholly};
 
 use crate::changing::{KEEPER, sharing};
 use crate::mending::Wishes;
@@ -11,10 +13,13 @@ use ods_check::find_lost;
 use ods_filing::Filing;
 use ods_mount::{Mounted, mount};
 use ods_repair::{enter_lost, free_unheld, remove_dangling};
-use ods_shell::mounted::find_path;
+use ods_shell::mounted::{facts_of, find_path};
 use ods_shell::{Alone, Found, Kind, PathFault, Status, Unsaid};
 use ods_upkeep::make_directories;
 use std::alloc::{AllocError, Global};
+
+/// The number of the master directory.
+const MASTER: u16 = 4;
 
 /// Returns the image with the requested repairs that require a sound volume, if it is one.
 pub(crate) fn mend_mounted<'a>(
@@ -86,7 +91,7 @@ fn mend_sound<'a>(
     mend_lost(alloc, filing, wishes, report)
 }
 
-/// Removes entries that name no file, where that is asked for. Where one is refused, all stay.
+/// Removes entries that name no file, where that is asked for.
 fn mend_names<'a>(
     alloc: Global,
     filing: &mut Filing,
@@ -94,23 +99,18 @@ fn mend_names<'a>(
     report: &mut Report,
 ) -> Result<(), Stop<'a>>
     ensures leaves { OnOk result (LeavesNames wanted filing.old filing.new) }
-    ensures whole { OnOk result (Wholly report.old.is_left report.new.is_left (IsWhollyCleared wanted filing.old filing.new)) }
+    ensures whole { OnOk result (Wholly report.old.is_left report.new.is_left (LeavesNames wanted filing.old filing.new)) }
 {
     if !wanted {
         return Ok(());
     }
-    let user = filing.user();
-    let before = filing.mounted().copy()?;
     match remove_dangling(alloc, filing) {
         Ok(found) => {
             push_names(alloc, &mut report.text, &found)?;
             Ok(())
         }
-        Err(fault) => {
-            report.tell_left(alloc, Part::Names, &fault)?;
-            restore(alloc, filing, before, user)?;
-            Ok(())
-        }
+        // It fails only when out of memory.
+        Err(_) => Err(Stop::NoMemory),
     }
 }
 
@@ -229,7 +229,7 @@ fn directory_for<'a>(
     }
 }
 
-/// A new directory for lost files.
+/// A new directory for lost files. No right is required for it in the master directory, which denies nothing meanwhile.
 fn make_directory<'a>(
     alloc: Global,
     filing: &mut Filing,
@@ -239,7 +239,11 @@ fn make_directory<'a>(
     ensures made { IfOk result (λ made. MatchOption made (IsNoDirectoryMade wishes.now.stamp wishes.now.into filing.old) (HasDirectory wishes.now.stamp wishes.now.into filing.old filing.new)) }
     ensures told { IfOk result (λ made. MatchOption made (report.new.is_left ≡ true) (λ _. report.new.is_left ≡ report.old.is_left)) }
 {
-    match make_directories(alloc, filing, wishes.stamp, &[wishes.into], 0, None) {
+    let master = master_of(filing, wishes.into)?;
+    let word = protect(filing, master, 0)?;
+    let made = make_directories(alloc, filing, wishes.stamp, &[wishes.into], 0, None);
+    protect(filing, master, word)?;
+    match made {
         Ok(()) => {
             let dir = directory_of(alloc, filing, wishes.into)?;
             Ok(Some(dir))
@@ -248,6 +252,30 @@ fn make_directory<'a>(
             report.tell_unmade(alloc, &failure)?;
             Ok(None)
         }
+    }
+}
+
+/// The ID of the master directory.
+fn master_of<'a>(filing: &Filing, path: &'a str) -> Result<FileId, Stop<'a>>
+    ensures { IfOk result (λ master. master.number ≡ 4) }
+{
+    match facts_of(filing.mounted(), MASTER) {
+        Some(facts) => Ok(FileId {
+            number: MASTER,
+            sequence: facts.file.sequence,
+        }),
+        // A sound volume has one.
+        None => Err(Stop::Path(path, PathFault::NoSuchFile)),
+    }
+}
+
+/// Sets the protection word of a directory that is there, and returns the word before. It fails only when out of memory.
+fn protect<'a>(filing: &mut Filing, dir: FileId, protection: u16) -> Result<u16, Stop<'a>>
+    ensures { IfOk result (λ word. HasProtection filing.old dir protection filing.new × (word ≡ word_of filing.old dir)) }
+{
+    match filing.replace_protection(dir, protection) {
+        Ok(word) => Ok(word),
+        Err(_) => Err(Stop::NoMemory),
     }
 }
 

@@ -1,6 +1,6 @@
 //! `put`: files of the host, put into a volume.
 ghost use Rattle.std.specs.Prelude.{◌≡◌, ◌≤◌, ◌⊎◌, ℕ, List, Ok, Some, IfErr, IfOk, OnOk, is_some, not, slice_get, vec_len};
-ghost use Rattle.f11fs.specs.{Changed.ArePut, Changed.ArePutNext, Changed.IsRefusal, Changed.path_among, Dated.IsHostTime, Forms.form_said, Forms.placing_for as placing_by, Forms.placing_said, Readings.IsLastPart, Readings.IsTooLarge, Readings.IsUnread, Readings.first_at};
+ghost use Rattle.f11fs.specs.{Changed.ArePut, Changed.ArePutNext, Changed.IsRefusal, Changed.path_among, Dated.IsHostTime, Forms.form_said, Forms.placing_for as placing_by, Forms.placing_said, Readings.AreTaken, Readings.IsLastPart, Readings.IsTooLarge, Readings.IsUnread, Readings.first_at};
 ghost use Rattle.f11fs.specs.declared.early.Taken.{Taken as Read};
 ghost use Rattle.ods_upkeep.specs.HostPut.{IsHostPut};
 
@@ -8,7 +8,7 @@ use crate::changing::stop_failed;
 use crate::dating::{host_time, takes_times};
 use crate::early::{Early, hosts};
 use crate::host::Host;
-use fs_host::{HostFault, HostZone, Shown, read_host};
+use fs_host::{HostFault, HostZone, Shown};
 use fs_reads::{Stop, WordFault};
 use fs_words::{PutWords, Words};
 use ods_filing::Filing;
@@ -19,7 +19,7 @@ use std::fs::File;
 use std::rt::Files;
 
 /// Runs `put`: with two words or more, the last is the path on the volume.
-pub fn put<'a, R: Host>(
+pub(crate) fn put<'a, R: Host>(
     rt: &R,
     filing: &mut Filing,
     stamp: Stamp,
@@ -27,7 +27,9 @@ pub fn put<'a, R: Host>(
     how: PutWords<'a>,
     early: &mut Early,
 ) -> Result<(), Stop<'a>>
-    ensures done { OnOk result (ArePut (is_some words.now.stamp) how.entry words.now.paths.items stamp filing.old filing.new) }
+    requires { AreTaken (R.gives rt.now) early.old.taken.items }
+    ensures taken { AreTaken (R.gives rt.now) early.new.taken.items }
+    ensures done { OnOk result (ArePut (R.gives rt.now) (is_some words.now.stamp) how.entry words.now.paths.items stamp filing.old filing.new) }
     ensures refused { IfErr result IsRefusal }
 {
     let hosts = hosts(words.paths.as_slice());
@@ -80,7 +82,9 @@ fn put_each<'a, R: Host>(
     early: &mut Early,
     quiet: bool,
 ) -> Result<(), Stop<'a>>
-    ensures done { OnOk result (ArePutNext (is_some zone.now) stamp putting.old hosts.now filing.old putting.new filing.new) }
+    requires { AreTaken (R.gives rt.now) early.old.taken.items }
+    ensures taken { AreTaken (R.gives rt.now) early.new.taken.items }
+    ensures done { OnOk result (ArePutNext (R.gives rt.now) (is_some zone.now) stamp putting.old hosts.now filing.old putting.new filing.new) }
     ensures refused { IfErr result IsRefusal }
 {
     for host in hosts {
@@ -94,13 +98,16 @@ fn put_each<'a, R: Host>(
 
 /// The bytes of a host file that is put. A folder is refused, with the option that puts it.
 #[tactic(auto, using(crate::proofs::Refusals::unread_refusal))]
-fn bytes_to_put<'a, R: Files<File = File> + AllocGlobal>(
+fn bytes_to_put<'a, R: Host>(
     rt: &R,
     path: &'a str,
     room: u64,
     early: &mut Early,
 ) -> Result<Vec<u8>, Stop<'a>>
-    ensures { IfErr result IsRefusal }
+    requires { AreTaken (R.gives rt.now) early.old.taken.items }
+    ensures given { IfOk result (λ bytes. R.gives rt.now path.entry.now bytes.items) }
+    ensures taken { AreTaken (R.gives rt.now) early.new.taken.items }
+    ensures refused { IfErr result IsRefusal }
 {
     match host_bytes(rt, path, room, early) {
         Err(Stop::Word(path, WordFault::Unread(HostFault::IsFolder))) => {
@@ -215,12 +222,15 @@ fn last_part(path: &str) -> &str
 }
 
 /// Returns the bytes of a host file, at most the bytes that the volume has room for. No form of a file has fewer bytes than the host file.
-pub(crate) fn host_bytes<'a, R: Files<File = File> + AllocGlobal>(
+pub(crate) fn host_bytes<'a, R: Host>(
     rt: &R,
     path: &'a str,
     room: u64,
     early: &mut Early,
 ) -> Result<Vec<u8>, Stop<'a>>
+    requires { AreTaken (R.gives rt.now) early.old.taken.items }
+    ensures given { IfOk result (λ bytes. R.gives rt.now path.entry.now bytes.items) }
+    ensures taken { AreTaken (R.gives rt.now) early.new.taken.items }
     ensures few { IfOk result (λ bytes. vec_len bytes ≤ room) }
     // What was read early is put.
     ensures early { (place : ℕ) (one : Read) → first_at path.now early.old.taken.items ≡ Some place → slice_get early.old.taken.items place ≡ Some one → IfOk result (λ bytes. one.bytes ≡ Ok bytes) }
@@ -235,17 +245,21 @@ pub(crate) fn host_bytes<'a, R: Files<File = File> + AllocGlobal>(
 }
 
 /// Returns the contents of a host file that were read early, or otherwise reads them now.
-pub fn taken_or_read<R: Files<File = File> + AllocGlobal>(
+#[tactic(auto, using(crate::proofs::Taking::taken_out))]
+pub(crate) fn taken_or_read<R: Host>(
     rt: &R,
     path: &str,
     room: u64,
     early: &mut Early,
 ) -> Result<Vec<u8>, HostFault>
-    ensures { (place : ℕ) (one : Read) → first_at path.now early.old.taken.items ≡ Some place → slice_get early.old.taken.items place ≡ Some one → result ≡ one.bytes }
+    requires { AreTaken (R.gives rt.now) early.old.taken.items }
+    ensures given { IfOk result (λ bytes. R.gives rt.now path.now bytes.items) }
+    ensures taken { AreTaken (R.gives rt.now) early.new.taken.items }
+    ensures early { (place : ℕ) (one : Read) → first_at path.now early.old.taken.items ≡ Some place → slice_get early.old.taken.items place ≡ Some one → result ≡ one.bytes }
 {
     match early.take(path) {
         Some(read) => read,
-        None => read_host(rt, path, room),
+        None => rt.bytes_of(path, room),
     }
 }
 

@@ -1,7 +1,7 @@
 //! `put -r`: the contents of a folder of the host and below it, put into a directory of a volume.
 ghost use Rattle.std.specs.Prelude.{◌≡◌, ◌≤◌, ◌⊎◌, ℕ, is_some, IfErr, IfOk, OnOk, vec_len};
 ghost use Rattle.ods_upkeep.specs.TreePut.{IsFolderPut};
-ghost use Rattle.f11fs.specs.{Changed.IsRefusal, Changed.PutsBelow, TreePut.AreEntriesPut, TreePut.AreTreeWords, TreePut.IsEntryPut, TreePut.IsFilePut, TreePut.IsTreePut, TreePut.tree_form as form_for_tree};
+ghost use Rattle.f11fs.specs.{Changed.IsRefusal, Changed.PutsBelow, Readings.AreTaken, TreePut.AreEntriesPut, TreePut.AreTreeWords, TreePut.IsEntryPut, TreePut.IsFilePut, TreePut.IsTreePut, TreePut.tree_form as form_for_tree};
 ghost use Rattle.f11fs.specs.TreeFaults.{IsTooLarge};
 ghost use Rattle.fs_reads.specs.declared.stop.WordFault.TheVariants.{Large as IsLarge, LargeStream as IsLargeStream};
 
@@ -11,7 +11,7 @@ use crate::early::Early;
 use crate::host::Host;
 use crate::judging_tree::{host_path, judge_tree};
 use crate::putting::{form_of, placing_of, put};
-use fs_host::{HostFault, HostZone, Shown, TreeEntry, TreeKind, list_tree, read_host};
+use fs_host::{HostFault, HostZone, Shown, TreeEntry, TreeKind, list_tree};
 use fs_reads::{Stop, WordFault, stop_about};
 use fs_words::{PutWords, Words};
 use ods_base::FileId;
@@ -27,7 +27,7 @@ use std::fs::{File, Metadata};
 use std::rt::Files;
 
 /// Runs `put`: host files one by one, or with `-r` everything in a folder.
-pub fn put_files<'a, R: Host>(
+pub(crate) fn put_files<'a, R: Host>(
     rt: &R,
     filing: &mut Filing,
     stamp: Stamp,
@@ -35,7 +35,9 @@ pub fn put_files<'a, R: Host>(
     how: PutWords<'a>,
     early: &mut Early,
 ) -> Result<(), Stop<'a>>
-    ensures done { OnOk result (PutsBelow how.entry.below (is_some words.now.stamp) how.entry words.now.paths.items stamp filing.old filing.new) }
+    requires { AreTaken (R.gives rt.now) early.old.taken.items }
+    ensures taken { AreTaken (R.gives rt.now) early.new.taken.items }
+    ensures done { OnOk result (PutsBelow (R.gives rt.now) how.entry.below (is_some words.now.stamp) how.entry words.now.paths.items stamp filing.old filing.new) }
     ensures refused { IfErr result IsRefusal }
 {
     if how.below {
@@ -54,7 +56,7 @@ fn put_tree<'a, R: Host>(
     how: PutWords<'a>,
     skip: bool,
 ) -> Result<(), Stop<'a>>
-    ensures done { OnOk result (IsTreePut (is_some words.now.stamp) how.entry words.now.paths.items stamp filing.old filing.new) }
+    ensures done { OnOk result (IsTreePut (R.gives rt.now) (is_some words.now.stamp) how.entry words.now.paths.items stamp filing.old filing.new) }
     ensures refused { IfErr result IsRefusal }
 {
     let (folder, to) = tree_words(rt.alloc(), words.paths.as_slice())?;
@@ -114,7 +116,7 @@ fn put_entries<'a, R: Host>(
     entries: &[TreeEntry],
     quiet: bool,
 ) -> Result<(), Stop<'a>>
-    ensures done { OnOk result (AreEntriesPut (is_some zone.now) how.now dir entries.now filing.old filing.new) }
+    ensures done { OnOk result (AreEntriesPut (R.gives rt.now) folder.now (is_some zone.now) how.now dir entries.now filing.old filing.new) }
     ensures refused { IfErr result IsRefusal }
 {
     for entry in entries {
@@ -134,7 +136,7 @@ fn put_entry<'a, R: Host>(
     entry: &TreeEntry,
     quiet: bool,
 ) -> Result<(), Stop<'a>>
-    ensures done { OnOk result (IsEntryPut (is_some zone.now) how.now dir entry.now filing.old filing.new) }
+    ensures done { OnOk result (IsEntryPut (R.gives rt.now) folder.now (is_some zone.now) how.now dir entry.now filing.old filing.new) }
     ensures refused { IfErr result IsRefusal }
 {
     match entry.kind {
@@ -189,7 +191,7 @@ fn put_file<'a, R: Host>(
     path: &str,
     quiet: bool,
 ) -> Result<(), Stop<'a>>
-    ensures done { OnOk result (IsFilePut (is_some zone.now) how.now dir path.now filing.old filing.new) }
+    ensures done { OnOk result (IsFilePut (R.gives rt.now) folder.now (is_some zone.now) how.now dir path.now filing.old filing.new) }
     ensures refused { IfErr result IsRefusal }
 {
     let host = host_path(rt.alloc(), folder, path)?;
@@ -239,15 +241,12 @@ fn stop_in_tree<'a>(alloc: Global, folder: &str, failure: &Failure) -> Stop<'a>
 }
 
 /// The bytes of a file of a tree, at most as many as there is room for on the volume.
-fn tree_bytes<'a, R: Files<File = File> + AllocGlobal>(
-    rt: &R,
-    path: &str,
-    room: u64,
-) -> Result<Vec<u8>, Stop<'a>>
+fn tree_bytes<'a, R: Host>(rt: &R, path: &str, room: u64) -> Result<Vec<u8>, Stop<'a>>
+    ensures given { IfOk result (λ bytes. R.gives rt.now path.now bytes.items) }
     ensures few { IfOk result (λ bytes. vec_len bytes ≤ room) }
     ensures err { IfErr result IsRefusal }
 {
-    match read_host(rt, path, room) {
+    match rt.bytes_of(path, room) {
         Ok(bytes) => Ok(bytes),
         Err(HostFault::TooLarge) => {
             let why = too_large(rt, path, room);

@@ -23,9 +23,6 @@ pub enum Part {
     /// The blocks that `free` marks.
     #[error("free")]
     Free,
-    /// The entries that `names` removes.
-    #[error("names")]
-    Names,
     /// The files that `lost` enters.
     #[error("lost")]
     Lost,

@@ -4,7 +4,7 @@ ghost use Rattle.ods_filing.specs.Led.{IsLed};
 ghost use Rattle.ods_upkeep.specs.Kinds.{Cuts};
 ghost use Rattle.f11fs.specs.Changed.{CutsFirst, IsRefusal};
 
-use crate::changing::stop_failed;
+use crate::changing::stop_unfound;
 use fs_host::Shown;
 use fs_reads::Stop;
 use fs_words::Words;
@@ -31,7 +31,7 @@ pub fn truncate<'a, R: AllocGlobal + Eprint>(
         return Err(Stop::Lines(String::new(rt.alloc()), Status::Words));
     };
     if let Err(failure) = truncate_file(rt.alloc(), filing, *path, bytes) {
-        return Err(stop_failed(rt.alloc(), &failure));
+        return Err(stop_unfound(rt.alloc(), filing, &failure));
     }
     say_cut(rt, filing.mounted(), *path, words.quiet)?;
     Ok(())

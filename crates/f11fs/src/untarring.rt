@@ -1,9 +1,10 @@
 //! `untar`: the files and directories of an archive of the host, put into a volume.
-ghost use Rattle.std.specs.Prelude.{◌≡◌, ◌++◌, ◌*◌, ◌≤◌, List, is_some, length, not, IfErr, OnOk, slice_get};
+ghost use Rattle.std.specs.Prelude.{◌≡◌, ◌++◌, ◌*◌, ◌≤◌, List, Some, is_some, length, not, IfErr, IfNone, IfSome, IsTrue, OnOk, slice_get};
 ghost use Rattle.ods_filing.specs.Filed.{Filed};
+ghost use Rattle.ods_request.specs.Stamps.{is_stamp};
 ghost use Rattle.ods_upkeep.specs.Given.{GetTheirs};
 ghost use Rattle.ods_upkeep.specs.declared.giving.Access.{Access as Given};
-ghost use Rattle.f11fs.specs.{Changed.IsRefusal, Unpacked.ArePutFrom, Unpacked.AreUntarred, Unpacked.IsDirectoryPut, Unpacked.IsDue, Unpacked.IsFilePut, Unpacked.IsMemberTime, Unpacked.IsPut, Unpacked.archive_among, Unpacked.directory_among, Unpacked.has_access as gives_access, Unpacked.is_directory as is_directory_kind, Unpacked.placing_told};
+ghost use Rattle.f11fs.specs.{Changed.IsRefusal, Readings.AreTaken, Unpacked.ArePutFrom, Unpacked.AreUntarred, Unpacked.IsDirectoryPut, Unpacked.IsDue, Unpacked.IsFilePut, Unpacked.IsMemberTime, Unpacked.IsPut, Unpacked.archive_among, Unpacked.directory_among, Unpacked.has_access as gives_access, Unpacked.is_directory as is_directory_kind, Unpacked.placing_told};
 
 use crate::changing::stop_failed;
 use crate::dating::time_at;
@@ -29,14 +30,16 @@ use std::str;
 const CONTIGUOUS: u8 = 128;
 
 /// Runs `untar`: the first word is the archive, or `-`, and the second a directory of the volume.
-pub fn untar<'a, R: Host>(
+pub(crate) fn untar<'a, R: Host>(
     rt: &R,
     filing: &mut Filing,
     stamp: Stamp,
     words: &Words<'a>,
     early: &mut Early,
 ) -> Result<(), Stop<'a>>
-    ensures done { OnOk result (AreUntarred (is_some words.now.stamp) words.now.paths.items stamp filing.old filing.new) }
+    requires { AreTaken (R.gives rt.now) early.old.taken.items }
+    ensures taken { AreTaken (R.gives rt.now) early.new.taken.items }
+    ensures done { OnOk result (AreUntarred (R.gives rt.now) (is_some words.now.stamp) words.now.paths.items stamp filing.old filing.new) }
     ensures refused { IfErr result IsRefusal }
 {
     let alloc = rt.alloc();
@@ -70,14 +73,32 @@ struct Times {
 }
 
 impl Times {
-    /// Returns the time of a file or a directory by the time of its member, in seconds since 1970; if the member has none, the time of the run.
-    fn of(&self, time: Option<u64>) -> Stamp
-        ensures { IsMemberTime (not (is_some self.now.zone)) self.now.run time result }
+    /// Returns the time of a file or a directory: the specified time, or else the date in its records. Without one it is the time of its member, in
+    /// seconds since 1970; if the member has none, the time of the run.
+    fn of(&self, date: Option<[u8; 13]>, time: Option<u64>) -> Stamp
+        ensures { IsMemberTime (not (is_some self.now.zone)) self.now.run date time result }
     {
+        if self.zone.is_none() {
+            return self.run;
+        }
+        if let Some(stamp) = stamp_in(date) {
+            return stamp;
+        }
         match time {
             Some(second) => time_at(&self.zone, second, self.run),
             None => self.run,
         }
+    }
+}
+
+/// The date in records as a stamp, if it is one.
+fn stamp_in(date: Option<[u8; 13]>) -> Option<Stamp>
+    ensures some { IfSome result (λ stamp. (date ≡ Some stamp) × IsTrue (is_stamp stamp)) }
+    ensures none { IfNone result (IfSome date (λ text. ¬ IsTrue (is_stamp text))) }
+{
+    match date {
+        Some(text) => Stamp::parse(&text),
+        None => None,
     }
 }
 
@@ -198,7 +219,7 @@ fn put_directory<'a>(
     };
     let packed = PackedDirectory {
         path,
-        stamp: times.of(wanted.found.mtime),
+        stamp: times.of(wanted.told.date, wanted.found.mtime),
     };
     let made = match untar_directory(alloc, filing, times.run, &packed) {
         Ok(made) => made,
@@ -271,7 +292,7 @@ fn put_file<'a>(
     let packed = Packed {
         path,
         bytes: wanted.found.bytes,
-        stamp: times.of(wanted.found.mtime),
+        stamp: times.of(wanted.told.date, wanted.found.mtime),
         attributes: wanted.told.attributes,
         owner: wanted.told.owner,
         protection: wanted.told.protection,

@@ -1,7 +1,8 @@
 //! The bytes of a floppy in physical order, with the volume in its sectors.
-ghost use Rattle.std.specs.Prelude.{◌≡◌, ◌+◌, ◌*◌, ◌++◌, [], MatchBool, IfOk, IfErr, IfSome, IsTrue, IsFalse, is_some, length, replicate};
+ghost use Rattle.std.specs.Prelude.{◌≡◌, ◌+◌, ◌*◌, ◌++◌, ◌==◌, [], MatchBool, IfOk, IfErr, IfSome, IsTrue, IsFalse, is_some, length, replicate, take};
+ghost use Rattle.std.specs.List.{list_all};
 ghost use Rattle.ods_base.specs.Image.{image_bytes};
-ghost use Rattle.ods_order.specs.Order.{block_count, container_size};
+ghost use Rattle.ods_order.specs.Order.{block_count, container_size, first_track};
 ghost use Rattle.ods_order.specs.Volumes.{IsLaidOut};
 ghost use Rattle.fs_host.specs.Faults.{may_end_writing, may_end_copying, may_be_wanting};
 ghost use Rattle.fs_host.specs.Layers.{DoesNotFit};
@@ -57,6 +58,14 @@ impl Floppy {
         ensures { result.now ≡ self.now.1 }
     {
         self.bytes.as_slice()
+    }
+
+    /// Returns whether the first track of an RX01 or RX02, which is not part of the volume, has only zeros. An RX50 has no such track.
+    pub fn has_empty_track(&self) -> bool
+        ensures { result ≡ list_all (λ byte. byte == 0) (take (first_track self.now.0) self.now.1) }
+    {
+        let track = &self.bytes[..self.order.first_track()];
+        track.iter().all(|byte| *byte == 0)
     }
 
     /// Writes this volume, followed by `behind`, into the sectors of the volume. Returns whether they fit. If they do not fit, nothing changes.

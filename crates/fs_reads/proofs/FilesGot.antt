@@ -1,5 +1,5 @@
 -- Files that are got one after another.
-use Rattle.std.proofs.Common.{◌≡◌, ◌≢◌, ◌⊎◌, inl, inr, ℕ, ◌+◌, true, refl, sym, ◌∙◌, ap, subst, ◌<◌, List, [], ◌++◌, length, get_or, take, Option, Some, None}
+use Rattle.std.proofs.Common.{◌≡◌, ◌≢◌, ◌⊎◌, inl, inr, ℕ, ◌+◌, Bool, true, false, refl, sym, ◌∙◌, ap, subst, ◌<◌, List, [], ◌++◌, length, get_or, take, Option, Some, None}
 use Rattle.std.specs.Prelude.{IfOk, IfSome, IsSome, Result, Ok, Err}
 use Rattle.std.specs.Borrow.{Bor}
 use Rattle.std.specs.List.{All, slice_get}
@@ -21,6 +21,9 @@ use Rattle.fs_reads.specs.Denied.{IsClosedStatus, IsUnread, MayRead}
 use Rattle.fs_reads.specs.Ends.{may_name}
 use Rattle.fs_reads.specs.Gets.{EndsFile, EndsGet, IsAmong, IsGettable, IsPathGot, IsRefused}
 use Rattle.fs_reads.specs.Named.{AddsNamed}
+use Rattle.fs_reads.specs.Targets.{IsWritten, StayTaken}
+use Rattle.fs_reads.specs.TreesGot.{IsDirectoryGot}
+use Rattle.ods_shell.specs.declared.folders.Directory.{Directory}
 
 -- of two statuses the first fault counts: done is what is done twice
 pub both_done : (one later s : Status) → (one ≡ status.Done → s ≡ later) → (¬ (one ≡ status.Done) → s ≡ one) → s ≡ status.Done → (one ≡ status.Done) × (later ≡ status.Done)
@@ -125,3 +128,31 @@ module _ (I : List (List ℕ)) (L : VolumeLayout) (user : Option Uic) (closed : 
 -- what is got for this user past these directories
 pub got_for : (I : List (List ℕ)) (L : VolumeLayout) (Gives : ℕ → List ℕ → Option Remark → Type 0) (u v : Option Uic) (xs ys : List ℕ) (path : List ℕ) → u ≡ v → xs ≡ ys → IsPathGot I L u Gives xs path → IsPathGot I L v Gives ys path
 got_for I L Gives u v xs ys path same shut got = subst (λ w. IsPathGot I L w Gives ys path) same (subst (λ zs. IsPathGot I L u Gives zs path) shut got)
+
+-- What was written before stays written.
+module _ (user : Option Uic) (tells : Bool) (Gives : ℕ → List ℕ → Option Remark → Type 0) (old new : List ℕ → List ℕ → Type 0) (stay : StayTaken old new) where
+  pub still : (found : Found) → IsGettable user (IsWritten tells old Gives) found → IsGettable user (IsWritten tells new Gives) found
+  still found (facts, e, may, (bytes, said, (gives, written))) = (facts, e, may, (bytes, said, (gives, λ asked. ((written asked).0, stay (written asked).0 bytes (written asked).1))))
+
+  pub all_still : (files : List Found) → All (IsGettable user (IsWritten tells old Gives)) files → All (IsGettable user (IsWritten tells new Gives)) files
+  all_still files got = λ k d small. still (get_or files k d) (got k d small)
+
+  pub directories_still : (I : List (List ℕ)) (L : VolumeLayout) (directories : List Directory) → All (IsDirectoryGot I L user (IsWritten tells old Gives)) directories
+      → All (IsDirectoryGot I L user (IsWritten tells new Gives)) directories
+  directories_still I L directories got = λ k d small. let here = got k d small in (here.0, here.1, all_still here.0 here.2)
+
+-- what is opened of a file and was written to a path is written
+pub opened_written : (user : Option Uic) (tells : Bool) (Gives : ℕ → List ℕ → Option Remark → Type 0) (took : List ℕ → List ℕ → Type 0) (path : List ℕ) (found : Found) (Are : List ℕ → Type 0) (said : Option Remark) (known : Option Facts)
+    → found.facts ≡ known → IsSome known → IfSome known (λ facts. MayRead user facts × ((bytes : List ℕ) × Are bytes × Gives facts.file.number bytes said))
+    → (tells ≡ false → (bytes : List ℕ) → Are bytes → took path bytes) → IsGettable user (IsWritten tells took Gives) found
+opened_written user tells Gives took path found Are said None e some may written = absurd (cc some)
+opened_written user tells Gives took path found Are said (Some facts) e some may written = (facts, e, may.0, (may.1.0, said, (may.1.2, λ asked. (path, written asked may.1.0 may.1.1))))
+
+-- how a file ends that is written if the host takes it
+pub written_ends : (user : Option Uic) (tells : Bool) (Gives : ℕ → List ℕ → Option Remark → Type 0) (Lacks : ℕ → FormFault → Type 0) (took : List ℕ → List ℕ → Type 0) (path : List ℕ) (found : Found) (Are : List ℕ → Type 0) (said : Option Remark) (known : Option Facts)
+    → found.facts ≡ known → IsSome known → IfSome known (λ facts. MayRead user facts × ((bytes : List ℕ) × Are bytes × Gives facts.file.number bytes said))
+    → {E : Type 0} (r : Result Status E) → IfOk r (λ s. (s ≡ status.Done) ⊎ (s ≡ status.Host)) → IfOk r (λ s. s ≡ status.Done → tells ≡ false → (bytes : List ℕ) → Are bytes → took path bytes)
+    → IfOk r (EndsGet user (IsWritten tells took Gives) Lacks found)
+written_ends user tells Gives Lacks took path found Are said known e some may (Ok s) ends written =
+    elim ends [ inl done ↦ inl (inl (done, opened_written user tells Gives took path found Are said known e some may (written done))) | inr host ↦ inr host ]
+written_ends user tells Gives Lacks took path found Are said known e some may (Err why) ends written = tt

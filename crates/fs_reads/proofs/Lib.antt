@@ -8,6 +8,7 @@ mod InfoEnds
 mod Likeness
 mod Lines
 mod Mounting
+mod Nearby
 mod Opening
 mod PathsKnown
 mod Saying
@@ -16,4 +17,6 @@ mod Undeleting
 mod Patterns
 mod InArchive
 pub mod PassedOver
+mod Parting
 mod Archiving
+mod Catting

@@ -9,6 +9,7 @@ pub mod Shown
 pub mod Volumes
 pub mod Written
 pub mod Named
+pub mod Near
 pub mod Paths
 pub mod Readable
 pub mod Host
@@ -20,5 +21,8 @@ pub mod Scans
 pub mod Trees
 pub mod TreesGot
 pub mod Told
+pub mod Targets
 pub mod Tars
+pub mod Parts
 pub mod Archives
+pub mod Cats

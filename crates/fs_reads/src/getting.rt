@@ -1,5 +1,5 @@
 //! `get`: files of a volume, written to files of the host.
-ghost use Rattle.std.specs.Prelude.{◌≡◌, ◌≤◌, ◌<◌, ◌↔◌, ◌++◌, ◌⊎◌, ◌==◌, ℕ, List, Option, Ok, Err, false, true, IfErr, IfOk, IfSome, IsSome, IsTrue, MatchResult, is_some, length, string_bytes};
+ghost use Rattle.std.specs.Prelude.{◌≡◌, ◌≤◌, ◌<◌, ◌↔◌, ◌++◌, ◌⊎◌, ◌==◌, ℕ, List, Option, Ok, Err, false, true, IfErr, IfOk, IfSome, IsSome, IsTrue, MatchResult, codes, is_some, length, string_bytes};
 ghost use Rattle.std.specs.Borrow.{Bor};
 ghost use Rattle.std.specs.Fs.{IsDir, file_type};
 ghost use Rattle.std.specs.List.{All, ends_with, list_any};
@@ -7,20 +7,22 @@ ghost use Rattle.std.specs.Option.{option_to_list};
 ghost use Rattle.fs_reads.specs.Dates.{IsDateAt, IsDatedBy};
 ghost use Rattle.fs_reads.specs.Ends.{may_name};
 ghost use Rattle.fs_reads.specs.Gets.{AreGot, AreSaid, EndsGet, GoesTo, IsAmong, IsGettable, path_within, says_all_versions as says_all};
+ghost use Rattle.fs_reads.specs.Targets.{IsWritten, StayTaken};
 ghost use Rattle.fs_reads.specs.Written.{status_written};
 ghost use Rattle.fs_reads.specs.declared.stop.Stop.{Stop as End};
-ghost use Rattle.ods_shell.specs.Contents.{IsGot, IsNotGot};
+ghost use Rattle.ods_shell.specs.{Contents.IsGot, Contents.IsNotGot, Shown.ContentsAre};
 ghost use Rattle.ods_shell.specs.declared.status.Status.{Status as Code};
 ghost use Rattle.ods_space.specs.Files.{FindsFiles};
 ghost use Rattle.ods_space.specs.Disks.{on};
 
 use crate::closed::closed_to;
-use crate::getting_part::get_part;
-use crate::host_files::{Written, could_write, write_host};
-use crate::printing::{Reader, add_named, cat_file, say_remark, say_unread};
+use crate::getting_part::keep_part;
+use crate::host_files::{Written, could_write};
+use crate::printing::{Reader, add_named, say_remark, say_unread};
 use crate::progress::Progress;
 use crate::reading::open_found;
 use crate::stop::{Stop, WordFault, send};
+use crate::targets::Targets;
 use fs_host::{HostFault, HostZone, Shown};
 use fs_words::Words;
 use ods_base::Uic;
@@ -68,8 +70,9 @@ pub(crate) struct How<'a> {
 /// `get`: extracts the files that the paths select. Without `said`, the last of two or more words is the destination. With a zone, each host file
 /// receives the creation date of its file as its modification time. With `partial` what is left of a file is written if its chain is not whole; the
 /// file still counts as refused.
-pub(crate) fn get<'a, R: Files<File = File> + Clock + AllocGlobal + Print + Eprint>(
+pub(crate) fn get<'a, R: Files<File = File> + Clock + AllocGlobal + Print + Eprint, T: Targets>(
     rt: &R,
+    targets: &mut T,
     disk: &Disk<'_>,
     words: &Words<'a>,
     said: Option<&'a str>,
@@ -81,7 +84,7 @@ pub(crate) fn get<'a, R: Files<File = File> + Clock + AllocGlobal + Print + Epri
     requires { on FindsFiles disk.now }
     ensures status { IfOk result (λ s. may_name s ≡ true) }
     ensures done { IfOk result (λ s. s ≡ Code.Done → (paths : List (Bor (List ℕ))) × ((target : Option (Bor (List ℕ))) × AreSaid words.now.paths.items said.entry paths target
-        × on AreGot disk.now words.now.user (λ n. on IsGot disk.now n wanted) paths)) }
+        × on AreGot disk.now words.now.user (IsWritten words.now.saving.only_tells (T.took targets.new) (λ n. on IsGot disk.now n wanted)) paths)) }
 {
     let (paths, target) = split_words(&words.paths, said);
     let to = choose_destination(rt, target, paths.len())?;
@@ -99,7 +102,7 @@ pub(crate) fn get<'a, R: Files<File = File> + Clock + AllocGlobal + Print + Epri
         reader: Reader::of(words),
         zone,
     };
-    Ok(named.or(get_all(rt, disk, &all, to, how, progress)?))
+    Ok(named.or(get_all(rt, targets, disk, &all, to, how, progress)?))
 }
 
 /// Splits the words into the paths and the destination. Without `said`, the last of two or more words is the destination.
@@ -210,8 +213,9 @@ pub(crate) fn is_folder(found: io::Result<Metadata>) -> bool
 }
 
 /// Gets these files; a file of the host takes one.
-fn get_all<'a, R: Files<File = File> + Clock + AllocGlobal + Print + Eprint>(
+fn get_all<'a, R: Files<File = File> + Clock + AllocGlobal + Print + Eprint, T: Targets>(
     rt: &R,
+    targets: &mut T,
     disk: &Disk<'_>,
     files: &[Found],
     to: Destination<'a>,
@@ -220,19 +224,25 @@ fn get_all<'a, R: Files<File = File> + Clock + AllocGlobal + Print + Eprint>(
 ) -> Result<Status, Stop<'a>>
     requires { on FindsFiles disk.now }
     ensures status { IfOk result (λ s. may_name s ≡ true) }
-    ensures done { IfOk result (λ s. s ≡ Code.Done → All (IsGettable how.entry.reader.user (λ n. on IsGot disk.now n how.entry.wanted)) files.now) }
+    ensures done { IfOk result (λ s. s ≡ Code.Done → All (IsGettable how.entry.reader.user (IsWritten how.entry.only_tells (T.took targets.new) (λ n. on IsGot disk.now n how.entry.wanted))) files.now) }
+    ensures stay { StayTaken (T.took targets.old) (T.took targets.new) }
 {
     if let Destination::File(host) = to {
         if files.len() > 1 {
             return Err(Stop::Word(host, WordFault::NoFolder));
         }
     }
-    get_each(rt, disk, files, to, how, progress)
+    get_each(rt, targets, disk, files, to, how, progress)
 }
 
 /// Extracts each of these files.
-pub(crate) fn get_each<'a, R: Files<File = File> + Clock + AllocGlobal + Print + Eprint>(
+pub(crate) fn get_each<
+    'a,
+    R: Files<File = File> + Clock + AllocGlobal + Print + Eprint,
+    T: Targets,
+>(
     rt: &R,
+    targets: &mut T,
     disk: &Disk<'_>,
     files: &[Found],
     to: Destination<'_>,
@@ -241,14 +251,15 @@ pub(crate) fn get_each<'a, R: Files<File = File> + Clock + AllocGlobal + Print +
 ) -> Result<Status, Stop<'a>>
     requires { on FindsFiles disk.now }
     ensures status { IfOk result (λ s. may_name s ≡ true) }
-    ensures done { IfOk result (λ s. s ≡ Code.Done → All (IsGettable how.entry.reader.user (λ n. on IsGot disk.now n how.entry.wanted)) files.now) }
+    ensures done { IfOk result (λ s. s ≡ Code.Done → All (IsGettable how.entry.reader.user (IsWritten how.entry.only_tells (T.took targets.new) (λ n. on IsGot disk.now n how.entry.wanted))) files.now) }
+    ensures stay { StayTaken (T.took targets.old) (T.took targets.new) }
 {
     let versions = Versioned::of(rt.alloc(), files)?;
     let mut written = BTreeSet::new(rt.alloc());
     let mut status = Status::Done;
     let mut before = 0u64;
     for found in files {
-        let done = get_one(rt, disk, found, to, how, &versions, &mut written)?;
+        let done = get_one(rt, targets, disk, found, to, how, &versions, &mut written)?;
         status = status.or(done);
         if to != Destination::Output {
             progress.show(rt, before, files.len() as u64);
@@ -258,9 +269,10 @@ pub(crate) fn get_each<'a, R: Files<File = File> + Clock + AllocGlobal + Print +
     Ok(status)
 }
 
-/// Gets one file to its destination. Of a file that is refused, what is left is written if that is requested.
-fn get_one<'a, R: Files<File = File> + AllocGlobal + Print + Eprint>(
+/// Gets one file to its destination.
+fn get_one<'a, R: Files<File = File> + AllocGlobal + Print + Eprint, T: Targets>(
     rt: &R,
+    targets: &mut T,
     disk: &Disk<'_>,
     found: &Found,
     to: Destination<'_>,
@@ -269,43 +281,24 @@ fn get_one<'a, R: Files<File = File> + AllocGlobal + Print + Eprint>(
     written: &mut BTreeSet<String>,
 ) -> Result<Status, Stop<'a>>
     requires { on FindsFiles disk.now }
-    ensures { IfOk result (EndsGet how.entry.reader.user (λ n. on IsGot disk.now n how.entry.wanted) (λ n. on IsNotGot disk.now n how.entry.wanted) found.now) }
-{
-    let done = get_whole(rt, disk, found, to, how, versions, written)?;
-    if how.partial && done == Status::Refused {
-        get_part(rt, disk, found, to, how, versions, written)?;
-    }
-    Ok(done)
-}
-
-/// Gets one file to its destination, if it is whole.
-fn get_whole<'a, R: Files<File = File> + AllocGlobal + Print + Eprint>(
-    rt: &R,
-    disk: &Disk<'_>,
-    found: &Found,
-    to: Destination<'_>,
-    how: How<'_>,
-    versions: &Versioned,
-    written: &mut BTreeSet<String>,
-) -> Result<Status, Stop<'a>>
-    requires { on FindsFiles disk.now }
-    ensures { IfOk result (EndsGet how.entry.reader.user (λ n. on IsGot disk.now n how.entry.wanted) (λ n. on IsNotGot disk.now n how.entry.wanted) found.now) }
+    ensures ends { IfOk result (EndsGet how.entry.reader.user (IsWritten how.entry.only_tells (T.took targets.new) (λ n. on IsGot disk.now n how.entry.wanted)) (λ n. on IsNotGot disk.now n how.entry.wanted) found.now) }
+    ensures stay { StayTaken (T.took targets.old) (T.took targets.new) }
 {
     match to {
-        Destination::Output if how.only_tells => get_file(rt, disk, found, "-", how),
-        Destination::Output => Ok(cat_file(rt, disk, found, how.wanted, how.reader)?),
-        Destination::File(path) => get_file(rt, disk, found, path, how),
+        Destination::Output => get_file(rt, targets, disk, found, "-", how),
+        Destination::File(path) => get_file(rt, targets, disk, found, path, how),
         Destination::Folder(folder) => {
             let with_version = how.with_versions || versions.has_other(found);
             let name = found.host_name(rt.alloc(), with_version)?;
-            get_into(rt, disk, found, folder, name, how, written)
+            get_into(rt, targets, disk, found, folder, name, how, written)
         }
     }
 }
 
 /// Gets one file into a folder, under a name that is none of those that were written.
-fn get_into<'a, R: Files<File = File> + AllocGlobal + Print + Eprint>(
+fn get_into<'a, R: Files<File = File> + AllocGlobal + Print + Eprint, T: Targets>(
     rt: &R,
+    targets: &mut T,
     disk: &Disk<'_>,
     found: &Found,
     folder: &str,
@@ -314,7 +307,8 @@ fn get_into<'a, R: Files<File = File> + AllocGlobal + Print + Eprint>(
     written: &mut BTreeSet<String>,
 ) -> Result<Status, Stop<'a>>
     requires { on FindsFiles disk.now }
-    ensures { IfOk result (EndsGet how.entry.reader.user (λ n. on IsGot disk.now n how.entry.wanted) (λ n. on IsNotGot disk.now n how.entry.wanted) found.now) }
+    ensures ends { IfOk result (EndsGet how.entry.reader.user (IsWritten how.entry.only_tells (T.took targets.new) (λ n. on IsGot disk.now n how.entry.wanted)) (λ n. on IsNotGot disk.now n how.entry.wanted) found.now) }
+    ensures stay { StayTaken (T.took targets.old) (T.took targets.new) }
 {
     let path = path_within(rt.alloc(), folder, name.as_str())?;
     if written.contains(&name) {
@@ -324,8 +318,8 @@ fn get_into<'a, R: Files<File = File> + AllocGlobal + Print + Eprint>(
         );
         return Ok(Status::Host);
     }
-    let done = get_file(rt, disk, found, path.as_str(), how)?;
-    if done == Status::Done && written.insert(name).is_err() {
+    let done = get_file(rt, targets, disk, found, path.as_str(), how)?;
+    if (done == Status::Done || how.partial) && written.insert(name).is_err() {
         return Err(Stop::NoMemory);
     }
     Ok(done)
@@ -338,25 +332,32 @@ pub(crate) fn path_within(alloc: Global, folder: &str, name: &str) -> Result<Str
     format!(in alloc; "{folder}/{name}")
 }
 
-/// Gets one file into a file of the host. A file that is refused, and a file of the host that is there, are said, and no fault of the command.
-fn get_file<'a, R: Files<File = File> + AllocGlobal + Print + Eprint>(
+/// Gets one file into a file of the host, or with `-` to standard output. A file that is refused, and a file of the host that is there, are reported.
+/// Of a refused file, what is left is written if that is requested.
+fn get_file<'a, R: Files<File = File> + AllocGlobal + Print + Eprint, T: Targets>(
     rt: &R,
+    targets: &mut T,
     disk: &Disk<'_>,
     found: &Found,
     host: &str,
     how: How<'_>,
 ) -> Result<Status, Stop<'a>>
     requires { on FindsFiles disk.now }
-    ensures { IfOk result (EndsGet how.entry.reader.user (λ n. on IsGot disk.now n how.entry.wanted) (λ n. on IsNotGot disk.now n how.entry.wanted) found.now) }
+    ensures ends { IfOk result (EndsGet how.entry.reader.user (IsWritten how.entry.only_tells (T.took targets.new) (λ n. on IsGot disk.now n how.entry.wanted)) (λ n. on IsNotGot disk.now n how.entry.wanted) found.now) }
+    ensures stay { StayTaken (T.took targets.old) (T.took targets.new) }
 {
     let path = found.path.as_str();
     match open_found(rt.alloc(), disk, found, how.wanted, how.reader.user) {
         Ok(got) => {
             say_remark(rt, path, &got.remark, how.reader.quiet);
             let changed = second_for(how.zone, found.facts());
-            keep(rt, path, &got.contents, host, changed, how)
+            keep(rt, targets, path, &got.contents, host, changed, how)
         }
-        Err(fault) => say_unread(rt, path, fault),
+        Err(fault) => {
+            let done = say_unread(rt, path, fault)?;
+            keep_part(rt, targets, disk, found, host, how)?;
+            Ok(done)
+        }
     }
 }
 
@@ -391,33 +392,58 @@ fn second_at(zone: &HostZone, date: &[u8; 13]) -> Option<u32>
     }
 }
 
-/// Writes the contents of a file to a host file, or prints that it would. Reports each failure on standard error and returns the status.
-pub(crate) fn keep<'a, R: Files<File = File> + AllocGlobal + Print + Eprint>(
+/// Writes the contents of a file to a host file, or with `-` to standard output, or prints that it would. Reports each failure on standard error and
+/// returns the status.
+pub(crate) fn keep<'a, R: Files<File = File> + AllocGlobal + Print + Eprint, T: Targets>(
     rt: &R,
+    targets: &mut T,
     path: &str,
     contents: &Contents<'_>,
     host: &str,
     changed: Option<u32>,
     how: How<'_>,
 ) -> Result<Status, Stop<'a>>
-    ensures { IfOk result (λ s. (s ≡ Code.Done) ⊎ (s ≡ Code.Host)) }
+    ensures status { IfOk result (λ s. (s ≡ Code.Done) ⊎ (s ≡ Code.Host)) }
+    ensures took { IfOk result (λ s. s ≡ Code.Done → how.entry.only_tells ≡ false → (bytes : List ℕ) → ContentsAre contents.now bytes → T.took targets.new host.now bytes) }
+    ensures stay { StayTaken (T.took targets.old) (T.took targets.new) }
 {
-    if host != "-" && is_same_file(rt, host, how.image) {
+    if host == "-" {
+        return print(rt, targets, path, contents, how);
+    }
+    if is_same_file(rt, host, how.image) {
         let host = Shown(host);
         let _ = eprintln!(rt; "f11fs: {path}: {host} is the image");
         return Ok(Status::Host);
     }
-    let written = if !how.only_tells {
-        write_host(rt, contents, host, changed, how.force)
-    } else if host == "-" {
-        Written::Done
-    } else {
-        could_write(rt, host, how.force)
-    };
-    if written == Written::Done && how.only_tells {
-        return tell(rt, path, host, how.json);
+    if !how.only_tells {
+        let written = targets.write(contents, host, changed, how.force);
+        return Ok(say_written(rt, path, host, written));
     }
-    Ok(say_written(rt, path, host, written))
+    match could_write(rt, host, how.force) {
+        Written::Done => tell(rt, path, host, how.json),
+        unwritten => Ok(say_written(rt, path, host, unwritten)),
+    }
+}
+
+/// Writes the contents of a file to standard output, or prints that it would.
+fn print<'a, R: AllocGlobal + Print, T: Targets>(
+    rt: &R,
+    targets: &mut T,
+    path: &str,
+    contents: &Contents<'_>,
+    how: How<'_>,
+) -> Result<Status, Stop<'a>>
+    ensures status { IfOk result (λ s. s ≡ Code.Done) }
+    ensures took { IfOk result (λ s. how.entry.only_tells ≡ false → (bytes : List ℕ) → ContentsAre contents.now bytes → T.took targets.new (codes "-") bytes) }
+    ensures stay { StayTaken (T.took targets.old) (T.took targets.new) }
+{
+    if how.only_tells {
+        return tell(rt, path, "-", how.json);
+    }
+    match targets.print(contents) {
+        Ok(()) => Ok(Status::Done),
+        Err(why) => Err(Stop::Unwritten(why)),
+    }
 }
 
 /// A line, or an object, for a file that would be got.

@@ -14,11 +14,11 @@ ghost use Rattle.fs_reads.specs.Undeleted.{AreIdsGot, EndsBy, IsFormerGot, IsIdG
 use crate::getting::{
     Destination, How, choose_destination, keep, path_within, second_for, split_words,
 };
-use crate::pouring::pour;
 use crate::printing::{Reader, say_remark, say_unread};
 use crate::progress::Progress;
 use crate::reading::{Unread, check_right};
 use crate::stop::{Stop, say_about, stop_about};
+use crate::targets::HostTargets;
 use fs_host::{HostZone, Shown};
 use fs_words::Words;
 use ods_base::FileId;
@@ -32,7 +32,6 @@ use ods_space::Disk;
 use std::alloc::{AllocError, Global};
 use std::collections::BTreeSet;
 use std::fs::File;
-use std::io;
 use std::rt::Files;
 use std::time::Clock;
 
@@ -223,13 +222,10 @@ fn put_got<'a, R: Files<File = File> + AllocGlobal + Print + Eprint>(
     let path = former.found.path.as_str();
     say_remark(rt, path, &got.remark, how.reader.quiet);
     let changed = second_for(how.zone, former.found.facts());
+    let mut targets = HostTargets { rt };
     match to {
-        Destination::Output if how.only_tells => keep(rt, path, &got.contents, "-", None, how),
-        Destination::Output => match pour(&got.contents, &mut io::writer(rt)) {
-            Ok(()) => Ok(Status::Done),
-            Err(why) => Err(Stop::Unwritten(why)),
-        },
-        Destination::File(host) => keep(rt, path, &got.contents, host, changed, how),
+        Destination::Output => keep(rt, &mut targets, path, &got.contents, "-", None, how),
+        Destination::File(host) => keep(rt, &mut targets, path, &got.contents, host, changed, how),
         Destination::Folder(folder) => {
             let name = former.found.host_name(rt.alloc(), false)?;
             put_into(rt, path, &got.contents, folder, name, changed, how, written)
@@ -258,7 +254,16 @@ fn put_into<'a, R: Files<File = File> + AllocGlobal + Print + Eprint>(
         );
         return Ok(Status::Host);
     }
-    let done = keep(rt, from, contents, path.as_str(), changed, how)?;
+    let mut targets = HostTargets { rt };
+    let done = keep(
+        rt,
+        &mut targets,
+        from,
+        contents,
+        path.as_str(),
+        changed,
+        how,
+    )?;
     if done == Status::Done && written.insert(name).is_err() {
         return Err(Stop::NoMemory);
     }

@@ -2,7 +2,7 @@
 ghost use Rattle.std.specs.Prelude.{◌≡◌, ◌⊎◌, ◌∷◌, ◌++◌, ℕ, List, Option, [], IfErr, IfOk, OnOk, if◌then◌else◌, string_bytes, true};
 ghost use Rattle.std.specs.Borrow.{Bor};
 ghost use Rattle.std.specs.List.{All};
-ghost use Rattle.fs_reads.specs.{Ends.StopsWith, Ends.may_name, Gets.AreSaid, TreesGot.AreFilesIn, TreesGot.IsDepthOf, TreesGot.IsDirectoryGot, TreesGot.IsOwnFolder, TreesGot.IsSaidAlone, TreesGot.IsTreeGot, TreesGot.host_folder, TreesGot.target_folder};
+ghost use Rattle.fs_reads.specs.{Ends.StopsWith, Ends.may_name, Gets.AreSaid, Targets.IsWritten, Targets.StayTaken, TreesGot.AreFilesIn, TreesGot.IsDepthOf, TreesGot.IsDirectoryGot, TreesGot.IsOwnFolder, TreesGot.IsSaidAlone, TreesGot.IsTreeGot, TreesGot.host_folder, TreesGot.target_folder};
 ghost use Rattle.fs_reads.specs.declared.stop.Stop.{Stop as End};
 ghost use Rattle.ods_paths.specs.Views.{folder as said_folder};
 ghost use Rattle.ods_shell.specs.{Contents.IsGot, Named.IsEntryOf, Passed.is_passed_over, Ways.AreMeant, Ways.CountAsClosed};
@@ -18,6 +18,7 @@ use crate::printing::Reader;
 use crate::progress::Progress;
 use crate::rescue_tree::{folder_text, name_below};
 use crate::stop::{Stop, WordFault, say_about, stop_about};
+use crate::targets::Targets;
 use fs_host::{HostFault, HostZone};
 use fs_words::Words;
 use ods_base::{Listed, Name};
@@ -36,8 +37,13 @@ use std::time::Clock;
 /// `get -r`: extracts the files in the one directory that the path specifies, and below it. The target is a host folder, which is created if it does
 /// not exist. Each directory below has a folder in it. All versions of a name are extracted. With a zone, each host file receives the creation date
 /// of its file.
-pub(crate) fn get_tree<'a, R: Files<File = File> + Clock + AllocGlobal + Print + Eprint>(
+pub(crate) fn get_tree<
+    'a,
+    R: Files<File = File> + Clock + AllocGlobal + Print + Eprint,
+    T: Targets,
+>(
     rt: &R,
+    targets: &mut T,
     disk: &Disk<'_>,
     words: &Words<'a>,
     said: Option<&'a str>,
@@ -48,7 +54,7 @@ pub(crate) fn get_tree<'a, R: Files<File = File> + Clock + AllocGlobal + Print +
     requires { on FindsFiles disk.now }
     ensures status { IfOk result (λ s. may_name s ≡ true) }
     ensures done { IfOk result (λ s. s ≡ Code.Done → (path : Bor (List ℕ)) × ((target : Option (Bor (List ℕ))) × AreSaid words.now.paths.items said.entry (path ∷ []) target
-        × on IsTreeGot disk.now words.now.user (λ n. on IsGot disk.now n wanted) path.now)) }
+        × on IsTreeGot disk.now words.now.user (IsWritten words.now.saving.only_tells (T.took targets.new) (λ n. on IsGot disk.now n wanted)) path.now)) }
 {
     let (paths, target) = split_words(&words.paths, said);
     let path = one_path(rt.alloc(), paths)?;
@@ -76,7 +82,16 @@ pub(crate) fn get_tree<'a, R: Files<File = File> + Clock + AllocGlobal + Print +
         zone,
     };
     let shut = say_closed(rt, &tree.closed, words.user)?;
-    let got = get_directories(rt, disk, &tree.directories, depth, root, how, progress)?;
+    let got = get_directories(
+        rt,
+        targets,
+        disk,
+        &tree.directories,
+        depth,
+        root,
+        how,
+        progress,
+    )?;
     Ok(shut.or(got))
 }
 
@@ -151,8 +166,9 @@ fn depth_of<'a>(
 }
 
 /// Gets the files in each of these directories, of whose names so many lead to the first.
-fn get_directories<'a, R: Files<File = File> + Clock + AllocGlobal + Print + Eprint>(
+fn get_directories<'a, R: Files<File = File> + Clock + AllocGlobal + Print + Eprint, T: Targets>(
     rt: &R,
+    targets: &mut T,
     disk: &Disk<'_>,
     directories: &[Directory],
     depth: usize,
@@ -162,12 +178,15 @@ fn get_directories<'a, R: Files<File = File> + Clock + AllocGlobal + Print + Epr
 ) -> Result<Status, Stop<'a>>
     requires { on FindsFiles disk.now }
     ensures status { IfOk result (λ s. may_name s ≡ true) }
-    ensures done { IfOk result (λ s. s ≡ Code.Done → All (on IsDirectoryGot disk.now how.entry.reader.user (λ n. on IsGot disk.now n how.entry.wanted)) directories.now) }
+    ensures done { IfOk result (λ s. s ≡ Code.Done → All (on IsDirectoryGot disk.now how.entry.reader.user (IsWritten how.entry.only_tells (T.took targets.new) (λ n. on IsGot disk.now n how.entry.wanted))) directories.now) }
+    ensures stay { StayTaken (T.took targets.old) (T.took targets.new) }
 {
     let mut taken = BTreeSet::new(rt.alloc());
     let mut status = Status::Done;
     for directory in directories {
-        let done = get_directory(rt, disk, directory, depth, root, how, &mut taken, progress)?;
+        let done = get_directory(
+            rt, targets, disk, directory, depth, root, how, &mut taken, progress,
+        )?;
         status = status.or(done);
     }
     Ok(status)
@@ -175,8 +194,9 @@ fn get_directories<'a, R: Files<File = File> + Clock + AllocGlobal + Print + Epr
 
 /// Gets the files in a directory, in a folder of its own below `root`; with `only_tells` no folder is made. If the host does not make a folder below
 /// `root`, that is said, and nothing is got from this directory.
-fn get_directory<'a, R: Files<File = File> + Clock + AllocGlobal + Print + Eprint>(
+fn get_directory<'a, R: Files<File = File> + Clock + AllocGlobal + Print + Eprint, T: Targets>(
     rt: &R,
+    targets: &mut T,
     disk: &Disk<'_>,
     directory: &Directory,
     depth: usize,
@@ -187,7 +207,8 @@ fn get_directory<'a, R: Files<File = File> + Clock + AllocGlobal + Print + Eprin
 ) -> Result<Status, Stop<'a>>
     requires { on FindsFiles disk.now }
     ensures status { IfOk result (λ s. may_name s ≡ true) }
-    ensures done { IfOk result (λ s. s ≡ Code.Done → on IsDirectoryGot disk.now how.entry.reader.user (λ n. on IsGot disk.now n how.entry.wanted) directory.now) }
+    ensures done { IfOk result (λ s. s ≡ Code.Done → on IsDirectoryGot disk.now how.entry.reader.user (IsWritten how.entry.only_tells (T.took targets.new) (λ n. on IsGot disk.now n how.entry.wanted)) directory.now) }
+    ensures stay { StayTaken (T.took targets.old) (T.took targets.new) }
 {
     let files = files_in(rt.alloc(), disk, directory)?;
     let names = directory.names.get(depth..).unwrap_or(&[]);
@@ -197,7 +218,7 @@ fn get_directory<'a, R: Files<File = File> + Clock + AllocGlobal + Print + Eprin
         return Ok(Status::Host);
     }
     let to = Destination::Folder(folder.as_str());
-    get_each(rt, disk, &files, to, how, progress)
+    get_each(rt, targets, disk, &files, to, how, progress)
 }
 
 /// Returns the folder of the host for a directory: the one with this name, or if an earlier directory has it, as another version of the directory may,

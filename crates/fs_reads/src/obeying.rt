@@ -4,6 +4,7 @@ ghost use Rattle.fs_reads.specs.Shown.{Extends};
 ghost use Rattle.ods_space.specs.Files.{FindsFiles};
 ghost use Rattle.ods_space.specs.Disks.{on};
 
+use crate::closed::closed_to;
 use crate::comparing::compare_all;
 use crate::deleted::push_deleted;
 use crate::finding::{push_paths, push_usage};
@@ -11,15 +12,17 @@ use crate::getting::get;
 use crate::getting_deleted::get_deleted;
 use crate::getting_tree::get_tree;
 use crate::listing::push_listings;
+use crate::near::stop_nothing;
 use crate::printing::cat;
 use crate::progress::Progress;
 use crate::showing::push_stats;
 use crate::stop::{Stop, send, stop_at_own_output};
+use crate::targets::HostTargets;
 use crate::tarring::tar;
 use fs_host::HostZone;
 use fs_words::{Action, Words};
 use ods_mount::Mounted;
-use ods_shell::{Columns, Status, space_lines, space_object, space_of};
+use ods_shell::{Columns, PathFault, Status, space_lines, space_object, space_of};
 use ods_space::Disk;
 use std::alloc::Global;
 use std::fs::File;
@@ -37,6 +40,24 @@ pub fn obey<'a, R: Files<File = File> + Clock + Env + AllocGlobal + Print + Epri
     requires { on FindsFiles disk.now }
 {
     stop_at_own_output(rt, words.image)?;
+    match run(rt, disk, words, progress) {
+        Err(Stop::Path(path, PathFault::Nothing)) => {
+            let closed = closed_to(rt.alloc(), disk, words.user)?;
+            Err(stop_nothing(rt.alloc(), disk, path, &closed))
+        }
+        done => done,
+    }
+}
+
+/// Runs a command on a volume.
+fn run<'a, R: Files<File = File> + Clock + Env + AllocGlobal + Print + Eprint + Clone + Drop>(
+    rt: &R,
+    disk: &Disk<'_>,
+    words: &Words<'a>,
+    progress: &mut Progress,
+) -> Result<Status, Stop<'a>>
+    requires { on FindsFiles disk.now }
+{
     match words.action {
         Action::Cat(wanted) => cat(rt, disk, words, wanted),
         Action::Get {
@@ -49,10 +70,30 @@ pub fn obey<'a, R: Files<File = File> + Clock + Env + AllocGlobal + Print + Epri
         } => {
             let zone = HostZone::read_where(rt, dated);
             let zone = zone.as_ref();
+            let mut targets = HostTargets { rt };
             if below {
-                get_tree(rt, disk, words, target, wanted, zone, progress)
+                get_tree(
+                    rt,
+                    &mut targets,
+                    disk,
+                    words,
+                    target,
+                    wanted,
+                    zone,
+                    progress,
+                )
             } else {
-                get(rt, disk, words, target, wanted, partial, zone, progress)
+                get(
+                    rt,
+                    &mut targets,
+                    disk,
+                    words,
+                    target,
+                    wanted,
+                    partial,
+                    zone,
+                    progress,
+                )
             }
         }
         Action::Get {

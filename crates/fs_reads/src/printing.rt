@@ -1,7 +1,6 @@
 //! `cat`: files of a volume, written to standard output.
 ghost use Rattle.std.specs.Prelude.{◌≡◌, ◌≢◌, ◌++◌, true, IfErr, IfOk, OnOk};
-ghost use Rattle.std.specs.List.{All};
-ghost use Rattle.fs_reads.specs.{Denied.IsClosedStatus, Ends.EndsPrinting, Ends.may_name, Gets.AreGot, Gets.EndsFile, Gets.IsGettable, Gets.IsPathGot, Named.AddsNamed};
+ghost use Rattle.fs_reads.specs.{Denied.IsClosedStatus, Ends.EndsPrinting, Ends.may_name, Cats.AreFilesOutput, Cats.ArePathsOutput, Cats.HoldsFiles, Cats.IsFileOutput, Cats.IsPathOutput, Gets.AreGot, Gets.EndsFile, Named.AddsNamed};
 ghost use Rattle.ods_shell.specs.{Contents.IsGot, Contents.IsNotGot};
 ghost use Rattle.fs_reads.specs.declared.stop.Stop.{Stop as End};
 ghost use Rattle.ods_shell.specs.declared.status.Status.{Status as Code};
@@ -9,9 +8,10 @@ ghost use Rattle.ods_space.specs.Files.{FindsFiles};
 ghost use Rattle.ods_space.specs.Disks.{on};
 
 use crate::closed::{closed_to, say_closed};
-use crate::pouring::pour;
+use crate::near::say_fault;
 use crate::reading::{Unread, open_found};
 use crate::stop::{Stop, say_about, say_twins};
+use fs_host::{HostFault, Noting};
 use fs_words::Words;
 use ods_base::Uic;
 use ods_shell::{
@@ -20,6 +20,7 @@ use ods_shell::{
 };
 use ods_space::Disk;
 use std::io;
+use std::io::Write;
 
 /// The user who reads, and whether remarks that are not faults are left out.
 #[derive(Clone, Copy)]
@@ -53,49 +54,76 @@ pub(crate) fn cat<'a, R: AllocGlobal + Print + Eprint>(
     ensures err { IfErr result EndsPrinting }
 {
     let closed = closed_to(rt.alloc(), disk, words.user)?;
+    let reader = Reader::of(words);
+    let mut output = io::writer(rt);
+    let mut noting = Noting::new(&mut output);
+    match cat_paths(rt, disk, &words.paths, &closed, wanted, reader, &mut noting) {
+        Ok(status) => Ok(status),
+        Err(Stop::Unwritten(_)) => Err(Stop::Unwritten(noting.why())),
+        Err(stop) => Err(stop),
+    }
+}
+
+/// Writes the files that these paths name, and says of those that are refused. Why the writer fails its owner knows.
+fn cat_paths<'a, R: AllocGlobal + Eprint, W: Write>(
+    rt: &R,
+    disk: &Disk<'_>,
+    paths: &[&str],
+    closed: &[u16],
+    wanted: Wanted,
+    reader: Reader,
+    writer: &mut W,
+) -> Result<Status, Stop<'a>>
+    requires { on FindsFiles disk.now }
+    ensures status { IfOk result (λ s. may_name s ≡ true) }
+    ensures written { IfOk result (λ s. HoldsFiles (W.contents writer.old) (W.contents writer.new) s (on ArePathsOutput disk.now wanted reader.user closed.now paths.now)) }
+    ensures err { IfErr result EndsPrinting }
+{
     let mut status = Status::Done;
-    for path in &words.paths {
-        status = status.or(cat_path(rt, disk, *path, &closed, wanted, Reader::of(words))?);
+    for path in paths {
+        status = status.or(cat_path(rt, disk, *path, closed, wanted, reader, writer)?);
     }
     Ok(status)
 }
 
-/// Writes the files that a path names to standard output, and says of those that are refused.
-fn cat_path<'a, R: AllocGlobal + Print + Eprint>(
+/// Writes the files that a path names, and says of those that are refused.
+fn cat_path<'a, R: AllocGlobal + Eprint, W: Write>(
     rt: &R,
     disk: &Disk<'_>,
     path: &str,
     closed: &[u16],
     wanted: Wanted,
     reader: Reader,
+    writer: &mut W,
 ) -> Result<Status, Stop<'a>>
     requires { on FindsFiles disk.now }
     ensures status { IfOk result (λ s. may_name s ≡ true) }
-    ensures done { IfOk result (λ s. s ≡ Code.Done → on IsPathGot disk.now reader.user (λ n. on IsGot disk.now n wanted) closed.now path.now) }
+    ensures written { IfOk result (λ s. HoldsFiles (W.contents writer.old) (W.contents writer.new) s (on IsPathOutput disk.now wanted reader.user closed.now path.now)) }
     ensures err { IfErr result EndsPrinting }
 {
     let mut files = Vec::new(rt.alloc());
     let named = add_named(rt, disk, path, closed, reader.user, &mut files)?;
-    let written = cat_files(rt, disk, &files, wanted, reader)?;
-    Ok(named.or(written))
+    let done = cat_files(rt, disk, &files, wanted, reader, writer)?;
+    Ok(named.or(done))
 }
 
-/// Writes these files to standard output, and says of those that are refused.
-fn cat_files<'a, R: AllocGlobal + Print + Eprint>(
+/// Writes these files, and says of those that are refused.
+fn cat_files<'a, R: AllocGlobal + Eprint, W: Write>(
     rt: &R,
     disk: &Disk<'_>,
     files: &[Found],
     wanted: Wanted,
     reader: Reader,
+    writer: &mut W,
 ) -> Result<Status, Stop<'a>>
     requires { on FindsFiles disk.now }
     ensures status { IfOk result (λ s. may_name s ≡ true) }
-    ensures done { IfOk result (λ s. s ≡ Code.Done → All (IsGettable reader.user (λ n. on IsGot disk.now n wanted)) files.now) }
+    ensures written { IfOk result (λ s. HoldsFiles (W.contents writer.old) (W.contents writer.new) s (on AreFilesOutput disk.now wanted reader.user files.now)) }
     ensures err { IfErr result EndsPrinting }
 {
     let mut status = Status::Done;
     for found in files {
-        status = status.or(cat_file(rt, disk, found, wanted, reader)?);
+        status = status.or(cat_file(rt, disk, found, wanted, reader, writer)?);
     }
     Ok(status)
 }
@@ -149,31 +177,33 @@ pub(crate) fn add_named<'a, R: AllocGlobal + Eprint>(
         }
         Err(PathFault::NoMemory) => Err(Stop::NoMemory),
         Err(fault) => {
-            say_about(rt, path, fault);
+            say_fault(rt, disk, path, closed, fault);
             Ok(fault.status())
         }
     }
 }
 
-/// Writes one file to standard output. A refused file is reported; the command goes on.
-pub(crate) fn cat_file<'a, R: AllocGlobal + Print + Eprint>(
+/// Writes one file. A file that is refused is said, and no fault of the command.
+fn cat_file<'a, R: AllocGlobal + Eprint, W: Write>(
     rt: &R,
     disk: &Disk<'_>,
     found: &Found,
     wanted: Wanted,
     reader: Reader,
+    writer: &mut W,
 ) -> Result<Status, Stop<'a>>
     requires { on FindsFiles disk.now }
     ensures ok { IfOk result (EndsFile reader.user (λ n. on IsGot disk.now n wanted) (λ n. on IsNotGot disk.now n wanted) found.now) }
+    ensures written { IfOk result (λ s. HoldsFiles (W.contents writer.old) (W.contents writer.new) s (on IsFileOutput disk.now wanted reader.user found.now)) }
     ensures err { IfErr result EndsPrinting }
 {
     let path = found.path.as_str();
     match open_found(rt.alloc(), disk, found, wanted, reader.user) {
         Ok(got) => {
             say_remark(rt, path, &got.remark, reader.quiet);
-            match pour(&got.contents, &mut io::writer(rt)) {
+            match got.contents.write_to(writer) {
                 Ok(()) => Ok(Status::Done),
-                Err(why) => Err(Stop::Unwritten(why)),
+                Err(_) => Err(Stop::Unwritten(HostFault::Unknown)),
             }
         }
         Err(fault) => say_unread(rt, path, fault),

@@ -108,12 +108,13 @@ IsUntar m a = (length (texts_of m (codes "path")) ≤ 2) × (a ≡ action.Change
 pub record IsFromSo (m : ArgMatches) (f : FromWords) : Type 0 where
   pub from : text_of m (codes "--from") ≡ Some f.from.now
   pub below : IsSet m (codes "-r") f.below
+  pub owners : IsSet m (codes "-a") f.owners
   pub next : IsSet m (codes "--next") f.next
   pub contiguous : IsContiguity m f.contiguous
 
 -- no other image is given, and no option that has an effect only with one
 abbrev pub IsCpWithin : ArgMatches → Action → Type 0
-IsCpWithin m a = (contiguous : Option Bool) × (text_of m (codes "--from") ≡ None) × IsSet m (codes "-r") false × IsSet m (codes "--next") false
+IsCpWithin m a = (contiguous : Option Bool) × (text_of m (codes "--from") ≡ None) × IsSet m (codes "-r") false × IsSet m (codes "-a") false × IsSet m (codes "--next") false
     × IsContiguity m contiguous × (contiguous ≢ Some false) × (a ≡ action.Change (change.Cp (unwrap_or contiguous false)))
 
 abbrev pub IsCp : ArgMatches → Action → Type 0

@@ -86,7 +86,7 @@ IsUnasked verb.Chown m = (owner : Uic) → IsValue IsSaid (text_of m (codes "own
 IsUnasked verb.Label m = text_of m (codes "label") ≡ None
 IsUnasked verb.Untar m = 2 < length (texts_of m (codes "path"))
 -- an option that has an effect only with another image is given within the volume
-IsUnasked verb.Cp m = (text_of m (codes "--from") ≡ None) × (IsSet m (codes "-r") true ⊎ (IsSet m (codes "--next") true ⊎ IsContiguity m (Some false)))
+IsUnasked verb.Cp m = (text_of m (codes "--from") ≡ None) × (IsSet m (codes "-r") true ⊎ (IsSet m (codes "-a") true ⊎ (IsSet m (codes "--next") true ⊎ IsContiguity m (Some false))))
 -- a word names no repair, or a directory is given without lost files
 IsUnasked verb.Repair m = HasUnknown (texts_of m (codes "path")) ⊎ ((is_some (text_of m (codes "--into")) ≡ true) × (is_asked_for (codes "lost") (texts_of m (codes "path")) ≡ false))
 IsUnasked verb.Init m = SpellsNone IsSize (unwrap_or (text_of m (codes "size")) []) ⊎ IsNoValue IsNumber (text_of m (codes "--files"))

@@ -147,6 +147,8 @@ pub struct FromWords<'a> {
     pub from: &'a str,
     /// Copies everything in a directory and below it.
     pub below: bool,
+    /// Gives each copy the owner of its file, and each directory that is made the owner of its original.
+    pub owners: bool,
     /// Gives the next version to a copy whose version is taken.
     pub next: bool,
     /// Whether the copies are in one piece, if it is specified.

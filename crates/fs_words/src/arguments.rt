@@ -2,7 +2,7 @@
 ghost use Rattle.std.specs.Prelude.{◌≡◌, ◌++◌, ◌∷◌, [], IfOk, false, map};
 ghost use Rattle.clap.specs.Simple.{app_of, new_app};
 ghost use Rattle.clap.specs.Walk.{rule_of};
-ghost use Rattle.fs_words.specs.{Kinds.IsKindOf, Kinds.IsSpelledOf, Rules.as_paths, Rules.letter_in, Rules.name_of, Rules.others, Rules.rule_for, Rules.rule_in, Rules.rules_in, Rules.spelled_as, Rules.with_rules};
+ghost use Rattle.fs_words.specs.{Kinds.IsKindOf, Kinds.IsSpelledOf, Rules.as_flag, Rules.as_large, Rules.as_needed, Rules.as_number, Rules.as_paths, Rules.as_text, Rules.as_word, Rules.letter_in, Rules.name_of, Rules.others, Rules.rule_for, Rules.rule_in, Rules.rules_in, Rules.spelled_as, Rules.with_rules};
 
 use clap::{Arg, ArgAction, Command, value_parser};
 use std::alloc::{AllocError, Global};
@@ -137,24 +137,67 @@ fn of_kind<'a>(arg: Arg<'a>, argument: &Argument<'a>) -> Arg<'a>
     ensures same { IsKindOf arg.entry result }
 {
     match *argument {
-        Argument::Flag(id, help) => with_spelling(arg, id).help(help).action(ArgAction::SetTrue),
-        Argument::Text(id, value, help) => with_spelling(arg, id).value_name(value).help(help),
-        Argument::Number(id, value, help) => with_spelling(arg, id)
-            .value_name(value)
-            .value_parser(value_parser!(u32))
-            .help(help),
-        Argument::Word(_, value, help) => arg.value_name(value).required(true).help(help),
-        Argument::LargeNumber(_, value, help) => arg
-            .value_name(value)
-            .required(true)
-            .value_parser(value_parser!(u64))
-            .help(help),
+        Argument::Flag(id, help) => flag(arg, id, help),
+        Argument::Text(id, value, help) => text(arg, id, value, help),
+        Argument::Number(id, value, help) => number(arg, id, value, help),
+        Argument::Word(_, value, help) => word(arg, value, help),
+        Argument::LargeNumber(_, value, help) => large_number(arg, value, help),
         Argument::Words(value, help) => words(arg, value, help, 0),
-        Argument::SomeWords(value, help) => words(arg, value, help, 0).required(true),
+        Argument::SomeWords(value, help) => some_words(arg, value, help, 0),
         Argument::Paths => words(arg, "PATH", PATHS_HELP, 0),
-        Argument::SomePaths => words(arg, "PATH", PATHS_HELP, 0).required(true),
-        Argument::TwoPaths => words(arg, "PATH", PATHS_HELP, 2).required(true),
+        Argument::SomePaths => some_words(arg, "PATH", PATHS_HELP, 0),
+        Argument::TwoPaths => some_words(arg, "PATH", PATHS_HELP, 2),
     }
+}
+
+/// An option without a value.
+fn flag<'a>(arg: Arg<'a>, option: &'a str, help: &'a str) -> Arg<'a>
+    ensures rule { rule_of result ≡ as_flag option.entry.now (rule_of arg.entry) }
+    ensures same { IsKindOf arg.entry result }
+{
+    with_spelling(arg, option)
+        .help(help)
+        .action(ArgAction::SetTrue)
+}
+
+/// An option with a value, and its name in the help.
+fn text<'a>(arg: Arg<'a>, option: &'a str, value: &'a str, help: &'a str) -> Arg<'a>
+    ensures rule { rule_of result ≡ as_text option.entry.now (rule_of arg.entry) }
+    ensures same { IsKindOf arg.entry result }
+{
+    with_spelling(arg, option).value_name(value).help(help)
+}
+
+/// An option with a number of 32 bits, and its name in the help.
+fn number<'a>(arg: Arg<'a>, option: &'a str, value: &'a str, help: &'a str) -> Arg<'a>
+    ensures rule { rule_of result ≡ as_number option.entry.now (rule_of arg.entry) }
+    ensures same { IsKindOf arg.entry result }
+{
+    text(arg, option, value, help).value_parser(value_parser!(u32))
+}
+
+/// A word that must be there, with its name in the help.
+fn word<'a>(arg: Arg<'a>, value: &'a str, help: &'a str) -> Arg<'a>
+    ensures rule { rule_of result ≡ as_word (rule_of arg.entry) }
+    ensures same { IsKindOf arg.entry result }
+{
+    arg.value_name(value).required(true).help(help)
+}
+
+/// A number of 64 bits that must be there, with its name in the help.
+fn large_number<'a>(arg: Arg<'a>, value: &'a str, help: &'a str) -> Arg<'a>
+    ensures rule { rule_of result ≡ as_large (rule_of arg.entry) }
+    ensures same { IsKindOf arg.entry result }
+{
+    word(arg, value, help).value_parser(value_parser!(u64))
+}
+
+/// Words that must be there, at least so many, with their name in the help.
+fn some_words<'a>(arg: Arg<'a>, value: &'a str, help: &'a str, least: usize) -> Arg<'a>
+    ensures rule { rule_of result ≡ as_needed least (rule_of arg.entry) }
+    ensures same { IsKindOf arg.entry result }
+{
+    words(arg, value, help, least).required(true)
 }
 
 /// Words, at least so many where any are said, with their name in the help.

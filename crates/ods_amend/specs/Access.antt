@@ -49,10 +49,10 @@ pub record IsWithAccess (b : List ℕ) (user : Option Uic) (word_given flags_giv
   pub checksum : word c 255 ≡ sum_of c 255
   pub others : (i : ℕ) → (i < 8) ⊎ ((13 ≤ i) × (i < 510)) → byte c i ≡ byte b i
 
--- the blocks J are the blocks I after the user gave file `id` this owner, this protection and these characteristics, each if given
-pub record IsGiven (I : List (List ℕ)) (L : VolumeLayout) (who : Uic) (id : FileId) (owner : Option Uic) (protection flags : Option ℕ) (J : List (List ℕ)) : Type 0 where
-  -- it is not refused
-  pub allowed : (C : Catalogue) → ShowsBy I L C → access_fault C who id ≡ None
+-- The blocks J are the blocks I in which file `id` has this owner, this protection and these characteristics, each if given.
+pub record IsSet (I : List (List ℕ)) (L : VolumeLayout) (id : FileId) (owner : Option Uic) (protection flags : Option ℕ) (J : List (List ℕ)) : Type 0 where
+  -- the file exists
+  pub there : (C : Catalogue) → ShowsBy I L C → map.get C.files id ≡ Some (file_at C id)
   -- the image is sound, and shows the catalogue with that file
   pub sound : IsSoundBy J L
   pub shown : (C : Catalogue) → ShowsBy I L C → ShowsBy J L (put_access C id owner protection flags)
@@ -64,6 +64,13 @@ pub record IsGiven (I : List (List ℕ)) (L : VolumeLayout) (who : Uic) (id : Fi
   pub long : length J ≡ length I
   pub header : IsWithAccess (header_at I L id.number) owner protection flags (header_at J L id.number)
   pub elsewhere : (x : ℕ) → place_of L id.number ≢ Some x → block_at J x ≡ block_at I x
+
+-- the blocks J are the blocks I after the user gave file `id` this owner, this protection and these characteristics, each if given
+pub record IsGiven (I : List (List ℕ)) (L : VolumeLayout) (who : Uic) (id : FileId) (owner : Option Uic) (protection flags : Option ℕ) (J : List (List ℕ)) : Type 0 where
+  -- it is not refused
+  pub allowed : (C : Catalogue) → ShowsBy I L C → access_fault C who id ≡ None
+  -- they are set
+  pub set : IsSet I L id owner protection flags J
 
 -- the volume E is the volume D after the user gave the file these; the layout is unchanged
 abbrev pub GivesAll : Disk → Uic → FileId → Option Uic → Option ℕ → Option ℕ → Disk → Type 0
@@ -86,3 +93,15 @@ IsAccessFault I L who id f = (C : Catalogue) → ShowsBy I L C → access_fault 
 -- why it is refused: its first fault or, if it has none, out of memory
 abbrev pub IsNotGiven : List (List ℕ) → VolumeLayout → Uic → FileId → Refusal → Type 0
 IsNotGiven I L who id f = (C : Catalogue) → ShowsBy I L C → MatchOption (access_fault C who id) (f ≡ refusal.NoMemory) (λ g. f ≡ g)
+
+-- the protection word of a file, H.FPRO of its first header
+abbrev pub protection_at : Disk → FileId → ℕ
+protection_at D id = protection_of (header_at D.image D.layout id.number)
+
+-- the volume E is the volume D in which file `id` has this protection word, whoever may set it; the layout is unchanged
+abbrev pub Protects : Disk → FileId → ℕ → Disk → Type 0
+Protects D id protection E = IsSet D.image D.layout id None (Some protection) None E.image × (E.layout ≡ D.layout)
+
+-- why a protection word is not set without regard to rights: there is no such file, or memory runs out
+abbrev pub IsNotProtected : List (List ℕ) → VolumeLayout → FileId → Refusal → Type 0
+IsNotProtected I L id f = ((f ≡ refusal.NoSuchFile) × ¬ IsFileId I L id) ⊎ (f ≡ refusal.NoMemory)

@@ -9,7 +9,8 @@ mod label;
 mod opening;
 mod runs;
 
-pub use access::{draft_access, set_owner, set_protection};
+pub use access::{draft_access, draft_protection, set_owner, set_protection};
 pub use bits::draft_marks;
 pub use label::{draft_label, set_label};
+pub use opening::may_give;
 pub use runs::{free_below, lowest_run};

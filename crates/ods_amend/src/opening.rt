@@ -17,8 +17,8 @@ const RESERVED: u16 = 5;
 /// The greatest group of a system user, 10 octal.
 const SYSTEM_GROUP: u8 = 8;
 
-/// Whether this user may give a file of this owner another owner or another protection: a system user and the owner may.
-fn may_give(who: &Uic, owner: &Uic) -> bool
+/// Whether this user may give a file of this owner another owner or another protection, or give this owner a file: a system user may, and the owner.
+pub fn may_give(who: &Uic, owner: &Uic) -> bool
     ensures { result ≡ user_may_give who.now owner.now }
 {
     who.group <= SYSTEM_GROUP || (who.group == owner.group && who.member == owner.member)

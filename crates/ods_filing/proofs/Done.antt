@@ -17,10 +17,10 @@ use Rattle.ods_volume.proofs.OtherPast.{with_past, other_past}
 use Rattle.ods_volume.proofs.Stepped.{stepped}
 use Rattle.ods_mount.specs.Sound.{IsSoundBy}
 use Rattle.ods_base.specs.declared.file_id.FileId.{FileId}
-use Rattle.ods_amend.specs.Access.{Gives, GivesAll}
+use Rattle.ods_amend.specs.Access.{Gives, GivesAll, Protects}
 use Rattle.ods_amend.specs.Bits.{MarksAs}
 use Rattle.ods_amend.specs.Label.{Relabels}
-use Rattle.ods_filing.specs.Amended.{HasGiven, HasGotLabel}
+use Rattle.ods_filing.specs.Amended.{HasGiven, HasGotLabel, HasProtection}
 use Rattle.ods_filing.specs.Contiguous.{HasCharacterised, HasMarked}
 use Rattle.ods_filing.specs.Filed.{Filed, HasGrown, IsDone}
 
@@ -73,6 +73,11 @@ has_grown D E who count (Err f) more = tt
 pub has_given : (D E : Disk) (who : Uic) (id : FileId) (owner : Option Uic) (protection : Option ℕ) {A : Type 0} (result : Result A Refusal) → OnOk result (Gives D who id owner protection E) → OnOk result (HasGiven (filed D who) id owner protection (filed E who))
 has_given D E who id owner protection (Ok a) gives = record { given = gives; user = refl }
 has_given D E who id owner protection (Err f) gives = tt
+
+-- a file of a user's volume has another protection word
+pub has_protection : (D E : Disk) (who : Uic) (id : FileId) (protection : ℕ) {A : Type 0} (result : Result A Refusal) → OnOk result (Protects D id protection E) → OnOk result (HasProtection (filed D who) id protection (filed E who))
+has_protection D E who id protection (Ok a) set = record { set = set; user = refl }
+has_protection D E who id protection (Err f) set = tt
 
 -- a user has given a file other characteristics
 pub has_characterised : (D E : Disk) (who : Uic) (id : FileId) (flags : ℕ) {A : Type 0} (result : Result A Refusal) → OnOk result (GivesAll D who id None None (Some flags) E) → OnOk result (HasCharacterised (filed D who) id flags (filed E who))

@@ -79,7 +79,7 @@ said_contiguous old G E h id count first body some run one has given = record {
   shown = λ C s.
       let f : File = file_with old.user C.default h body in
       let g : File = contiguous_with old.user C.default h count body in
-      let now = given.given.0.shown (created C id f) (one.shown C s) in
+      let now = given.given.0.set.shown (created C id f) (one.shown C s) in
       let is : with_access (file_at (created C id f) id) None None (Some 128) ≡ g = ap (λ x. with_access x None None (Some 128)) (there C id f) ∙ (λ i. record f { user_char = cond (sym some i) 0 128 }) in
       subst (λ X. ShowsBy E.image X (created C id g)) (sym given.given.1)
       (shown_once E.image G.layout C id f g (subst (λ x. ShowsBy E.image G.layout (put (created C id f) id x)) is now));
@@ -87,8 +87,8 @@ said_contiguous old G E h id count first body some run one has given = record {
   place = record {
     first = first;
     run = run;
-    blocks = nothing_moves_blocks (disk_at G) (disk_at E) (subst (λ X. NothingMoves (disk_at G) (record { image = E.image; layout = X })) (sym given.given.1) given.given.0.moves) given.given.0.long
-        (subst (IsSoundBy E.image) (sym given.given.1) given.given.0.sound) id.number (range_with_len first count) has;
+    blocks = nothing_moves_blocks (disk_at G) (disk_at E) (subst (λ X. NothingMoves (disk_at G) (record { image = E.image; layout = X })) (sym given.given.1) given.given.0.set.moves) given.given.0.set.long
+        (subst (IsSoundBy E.image) (sym given.given.1) given.given.0.set.sound) id.number (range_with_len first count) has;
   };
 }
 

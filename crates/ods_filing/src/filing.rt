@@ -5,9 +5,10 @@ ghost use Rattle.ods_space.specs.{Disks.on, Free.free_blocks, Free.free_numbers}
 ghost use Rattle.ods_mount.specs.Sound.{IsSoundBy};
 ghost use Rattle.ods_state.specs.{Outcome.CanBeAsked, Served.IsRefusalOf};
 ghost use Rattle.ods_amend.specs.Bits.{IsLoose};
-ghost use Rattle.ods_filing.specs.Amended.{HasGiven, HasGotLabel, IsWhyNotGiven};
+ghost use Rattle.ods_amend.specs.Access.{protection_at};
+ghost use Rattle.ods_filing.specs.Amended.{HasGiven, HasGotLabel, HasProtection, IsWhyNotGiven, IsWhyNotProtected};
 ghost use Rattle.ods_filing.specs.Contiguous.{HasCharacterised, HasMarked};
-ghost use Rattle.ods_filing.specs.Filed.{for_another, HasGrown, IsDone, IsWhyNotGrown, lacking};
+ghost use Rattle.ods_filing.specs.Filed.{disk_at, for_another, HasGrown, IsDone, IsWhyNotGrown, lacking};
 
 use ods_base::{FileId, Uic};
 use ods_init::Label;
@@ -85,6 +86,17 @@ impl Filing {
         ensures unchanged { OnErr result (self.new ≡ self.old) }
     {
         self.sound.set_access(self.user, file, owner, protection)
+    }
+
+    /// Sets the protection word of a file, and returns the word before. The file may be a system file, and no right is required. The refusals are
+    /// NoSuchFile and NoMemory. If refused, it changes nothing.
+    pub fn replace_protection(&mut self, file: FileId, protection: u16) -> Result<u16, Refusal>
+        ensures set { OnOk result (HasProtection self.old file protection self.new) }
+        ensures before { IfOk result (λ word. word ≡ protection_at (disk_at self.old) file) }
+        ensures refused { IfErr result (IsWhyNotProtected self.old file) }
+        ensures unchanged { OnErr result (self.new ≡ self.old) }
+    {
+        self.sound.replace_protection(file, protection)
     }
 
     /// Sets the user characteristics of a file, H.UCHA, as the user. If refused, it changes nothing.

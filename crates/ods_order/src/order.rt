@@ -1,7 +1,7 @@
 //! The orders of sectors: the size of a container of each, and the offset of each sector of the volume.
 ghost use Rattle.std.specs.Prelude.{◌≡◌, ◌≢◌, ◌+◌, ◌*◌, ◌<◌, ◌≤◌, IfSome, IfNone};
 ghost use Rattle.ods_order.specs.declared.order.Order.{Order as AnOrder};
-ghost use Rattle.ods_order.specs.Order.{block_count, container_size, floppy_slot as slot_of_floppy, order_name, place as place_of, rx50_slot as slot_of_rx50, sector_count, sector_size};
+ghost use Rattle.ods_order.specs.Order.{block_count, container_size, first_track as track_size, floppy_slot as slot_of_floppy, order_name, place as place_of, rx50_slot as slot_of_rx50, sector_count, sector_size};
 
 /// An order of the sectors of a floppy in a container. An image with its blocks in order has none of these orders.
 #[derive(Clone, Copy, Debug, PartialEq, Eq)]
@@ -60,6 +60,18 @@ impl Order {
             Order::Rx01 => 256_256,
             Order::Rx02 => 512_512,
             Order::Rx50 => 409_600,
+        }
+    }
+
+    /// Returns the size in bytes of the track that is not part of the volume.
+    pub fn first_track(self) -> usize
+        ensures value { result ≡ track_size self }
+        ensures inside { result ≤ container_size self }
+    {
+        match self {
+            Order::Rx01 => 3_328,
+            Order::Rx02 => 6_656,
+            Order::Rx50 => 0,
         }
     }
 

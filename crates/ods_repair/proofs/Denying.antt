@@ -1,4 +1,4 @@
--- Why an entry that names no file is not removed: its directory denies it, or there is no memory.
+-- Why an entry that names no file is not removed: there is no memory.
 use Rattle.std.proofs.Common.{◌≡◌, ℕ, refl, sym, ap, ◌∙◌, subst, Bool, true, false, cond, not, List, [], ◌∷◌, ◌++◌, length, Option, Some, None, is_some, unwrap_or, slice_get, inl, inr, arith}
 use Rattle.std.specs.Prelude.{◌⊎◌, MatchOption, is_none}
 use Rattle.std.specs.FinMap as finmap
@@ -29,9 +29,11 @@ use Rattle.ods_check.specs.declared.dangling_list.Dangling.{Dangling}
 use Rattle.ods_check.specs.Findings.{id_at}
 use Rattle.ods_check.specs.Repairs.{AreDangling, IsDangling, Precedes}
 use Rattle.ods_check.proofs.Turning.{at_place}
-use Rattle.ods_filing.specs.Filed.{Filed}
+use Rattle.ods_filing.specs.Filed.{Filed, IsRefusedFor}
 use Rattle.ods_repair.specs.Asked.{StopsAt}
 use Rattle.ods_repair.specs.Cleared.{removal_of}
+use Rattle.ods_state.specs.Contents.{ShowsBy}
+use Rattle.ods_repair.proofs.Bare.{names_worded, worded, worded_shown}
 use Rattle.ods_repair.proofs.InCatalogue.{name_there, names_in}
 use Rattle.ods_repair.proofs.Shedding.{one_is, sheds_all}
 
@@ -101,26 +103,39 @@ module _ (old new : Filed) (before : IsSoundBy old.image old.layout) (found : Li
       let same : y ≡ x = λ j. record { directory = dir j; line = record { name = name j; version = version j; file = file j } } in
       not_before_itself x (subst (λ z. Precedes z x) same (are.rising i (length stop.before) y x first second (slice_get_within stop.before i y at)))
 
-  pub denied : (reason ≡ refusal.Denied) ⊎ (reason ≡ refusal.NoMemory)
-  denied =
+  -- why a volume that shows the entry refuses to remove it: only for want of memory
+  why_refused : (volume : Filed) (C : Catalogue) → ShowsBy volume.image volume.layout C → finmap.get (names_in C x.directory) (key_of x.line.name x.line.version) ≡ Some x.line.file → IsRefusedFor volume (removal_of x) reason → reason ≡ refusal.NoMemory
+  why_refused volume C shown there refused = elim (fault_is C volume.user x.directory x.line.name x.line.version x.line.file there) [
+    | inl fault ↦ absurd (stop.undenied (subst (λ o. MatchOption o (IsShortOf volume.image volume.layout (removal_of x) reason) (λ g. reason ≡ g)) fault (refused C shown)))
+    | inr none ↦ short (subst (λ o. MatchOption o (IsShortOf volume.image volume.layout (removal_of x) reason) (λ g. reason ≡ g)) none (refused C shown))
+  ]
+    where
+      short : IsShortOf volume.image volume.layout (removal_of x) reason → reason ≡ refusal.NoMemory
+      short (inl lacks) = absurd lacks.wants
+      short (inr memory) = memory.0
+
+  pub no_memory : reason ≡ refusal.NoMemory
+  no_memory =
       let C = the_catalogue old.image old.layout before in
       let shown = is_shown old.image old.layout before in
-      let last = sheds_all old new stop.before C shown stop.asked in
+      let last = sheds_all old stop.mid stop.before C shown stop.asked in
       let second : slice_get found (length stop.before) ≡ Some x = ap (λ l. slice_get l (length stop.before)) stop.order ∙ seam stop.before stop.behind x in
       let here : IsDangling old.image old.layout x = at_place (IsDangling old.image old.layout) found (length stop.before) x are.each second in
       let e = name_there old.image old.layout before C shown x.directory.number x.line here.0.0 in
       elim (last.2.rest (id_at old.image old.layout x.directory.number) e.0.key x.line.file e.0.there) [
         | inl there ↦
             let is : finmap.get (names_in last.0 x.directory) (key_of x.line.name x.line.version) ≡ Some x.line.file = (λ j. finmap.get (names_in last.0 (here.1 j)) (e.1.1 j)) ∙ there in
-            elim (fault_is last.0 new.user x.directory x.line.name x.line.version x.line.file is) [
-              | inl fault ↦ inl (subst (λ o. MatchOption o (IsShortOf new.image new.layout (removal_of x) reason) (λ g. reason ≡ g)) fault (stop.refused last.0 last.1))
-              | inr none ↦ short (subst (λ o. MatchOption o (IsShortOf new.image new.layout (removal_of x) reason) (λ g. reason ≡ g)) none (stop.refused last.0 last.1))
+            elim stop.left [
+              | inl plain ↦ why_refused stop.mid last.0 last.1 is plain.0
+              | inr other ↦ elim other [
+                | inl bare ↦
+                    why_refused bare.bare (worded last.0 bare.dir 0) (worded_shown stop.mid bare.bare bare.dir 0 bare.bared last.0 last.1)
+                    (ap (λ m. finmap.get m (key_of x.line.name x.line.version)) ((λ j. names_in (worded last.0 bare.dir 0) (bare.names j)) ∙ names_worded last.0 bare.dir 0 ∙ (λ j. names_in last.0 (sym bare.names j))) ∙ is)
+                    bare.refused
+                | inr memory ↦ memory.0
+              ]
             ]
         | inr gone ↦
             let y = one_is stop.before (id_at old.image old.layout x.directory.number) e.0.key gone in
             absurd (other_entry C refl y.0 y.1.0 y.1.1.0 (sym y.1.1.1.0 ∙ sym here.1) (sym y.1.1.1.1 ∙ sym e.1.1))
       ]
-    where
-      short : IsShortOf new.image new.layout (removal_of x) reason → (reason ≡ refusal.Denied) ⊎ (reason ≡ refusal.NoMemory)
-      short (inl lacks) = absurd lacks.wants
-      short (inr memory) = inr memory.0

@@ -19,7 +19,8 @@ use Rattle.ods_repair.specs.declared.lost_file.LostFile.{LostFile}
 use Rattle.ods_repair.specs.Kept.{KeepsAll}
 use Rattle.ods_repair.proofs.InCatalogue.{names_in}
 use Rattle.ods_repair.proofs.Keeping.{keeps_itself, keeps_more}
-use Rattle.ods_repair.proofs.Stepping.{Enters, else_where, entering, equal_keys, here, keeps, same_key}
+use Rattle.ods_repair.proofs.Bare.{entered}
+use Rattle.ods_repair.proofs.Stepping.{Enters, else_where, equal_keys, here, keeps, same_key}
 
 -- Each file of the one is there in the other; each name is there, and each of these files is named by the directory. There is no other name.
 pub record Gains (C D : Catalogue) (come : FileId → FileId → Type 0) : Type 0 where
@@ -39,7 +40,7 @@ gains_none dir C = record { keeps = keeps_itself C; kept = λ id q f e. e; only 
 -- one file is entered
 gains_one : (C D : Catalogue) (dir : FileId) (x : LostFile) → Enters C D dir x.name x.file → Gains C D (λ id f. (id ≡ dir) × (f ≡ x.file))
 gains_one C D dir x r = record {
-  keeps = keeps C D dir (finmap.insert (names_in C dir) (key_of x.name r.version) x.file) r.renames;
+  keeps = keeps C D dir (finmap.insert (names_in C dir) (key_of x.name r.version) x.file) r.renamed;
   kept = λ id q f e. kept id q f e (ids id dir);
   only = λ id q f e. only id q f e (ids id dir);
   there = λ id f h. (
@@ -52,7 +53,7 @@ gains_one C D dir x r = record {
     -- what the directory has at a key
     at : (q : List ℕ) → finmap.get (names_in D dir) q ≡ cond (eq_by_cmp (slice_cmp nat_cmp) q (key_of x.name r.version)) (Some x.file) (finmap.get (names_in C dir) q)
     at q =
-        ap (λ m. finmap.get m q) (here C D dir (finmap.insert (names_in C dir) (key_of x.name r.version) x.file) r.renames)
+        ap (λ m. finmap.get m q) (here C D dir (finmap.insert (names_in C dir) (key_of x.name r.version) x.file) r.renamed)
         ∙ finmap.get-insert nat_list_cmp_total (names_in C dir) (key_of x.name r.version) x.file q
 
     kept_by : (q : List ℕ) (f : FileId) (b : Bool) → eq_by_cmp (slice_cmp nat_cmp) q (key_of x.name r.version) ≡ b → finmap.get (names_in C dir) q ≡ Some f → cond b (Some x.file) (finmap.get (names_in C dir) q) ≡ Some f
@@ -67,7 +68,7 @@ gains_one C D dir x r = record {
     kept : (id : FileId) (q : List ℕ) (f : FileId) → finmap.get (names_in C id) q ≡ Some f → (id ≡ dir) ⊎ ((¬ (id ≡ dir)) × (eq_by_cmp file_cmp id dir ≡ false)) → finmap.get (names_in D id) q ≡ Some f
     kept id q f e (inl same) =
         ap (λ d. finmap.get (names_in D d) q) same ∙ at q ∙ kept_by q f (eq_by_cmp (slice_cmp nat_cmp) q (key_of x.name r.version)) refl (ap (λ d. finmap.get (names_in C d) q) (sym same) ∙ e)
-    kept id q f e (inr apart) = ap (λ m. finmap.get m q) (else_where C D dir (finmap.insert (names_in C dir) (key_of x.name r.version) x.file) r.renames id apart.1) ∙ e
+    kept id q f e (inr apart) = ap (λ m. finmap.get m q) (else_where C D dir (finmap.insert (names_in C dir) (key_of x.name r.version) x.file) r.renamed id apart.1) ∙ e
 
     only : (id : FileId) (q : List ℕ) (f : FileId) → finmap.get (names_in D id) q ≡ Some f → (id ≡ dir) ⊎ ((¬ (id ≡ dir)) × (eq_by_cmp file_cmp id dir ≡ false)) → (finmap.get (names_in C id) q ≡ Some f) ⊎ ((id ≡ dir) × (f ≡ x.file))
     only id q f e (inl same) =
@@ -75,7 +76,7 @@ gains_one C D dir x r = record {
           | inl was ↦ inl (ap (λ d. finmap.get (names_in C d) q) same ∙ was)
           | inr file ↦ inr (same, file)
         ]
-    only id q f e (inr apart) = inl (ap (λ m. finmap.get m q) (sym (else_where C D dir (finmap.insert (names_in C dir) (key_of x.name r.version) x.file) r.renames id apart.1)) ∙ e)
+    only id q f e (inr apart) = inl (ap (λ m. finmap.get m q) (sym (else_where C D dir (finmap.insert (names_in C dir) (key_of x.name r.version) x.file) r.renamed id apart.1)) ∙ e)
 
 -- one file, and then those of a list
 gains_more : (C D E : Catalogue) (dir : FileId) (x : LostFile) (found : List LostFile) → Gains C D (λ id f. (id ≡ dir) × (f ≡ x.file)) → Gains D E (IsNamedBy dir found) → Gains C E (IsNamedBy dir (x ∷ found))
@@ -101,9 +102,9 @@ pub gains_all : (dir : FileId) (old new : Filed) (found : List LostFile) (C : Ca
     → (D : Catalogue) × ShowsBy new.image new.layout D × Gains C D (IsNamedBy dir found)
 gains_all dir old new [] C three shown same = (C, subst (λ (f : Filed). ShowsBy f.image f.layout C) (sym same) shown, gains_none dir C)
 gains_all dir old new (x ∷ found) C three shown (mid, done, more) =
-    let step = done.1.steps C shown (λ id makes. absurd (let wrong : false ≡ true = makes in cc)) in
-    let one = gains_one C step.0 dir x (entering C step.0 old.user dir x.file x.name done.0 (All-head (λ (y : LostFile). length y.name.words ≡ 3) x found three) step.1) in
-    let last = gains_all dir mid new found step.0 (All-tail (λ (y : LostFile). length y.name.words ≡ 3) x found three) step.2 more in
+    let step = entered old mid C shown dir x.file x.name (All-head (λ (y : LostFile). length y.name.words ≡ 3) x found three) done in
+    let one = gains_one C step.0 dir x step.2 in
+    let last = gains_all dir mid new found step.0 (All-tail (λ (y : LostFile). length y.name.words ≡ 3) x found three) step.1 more in
     (last.0, last.1, gains_more C step.0 last.0 dir x found one last.2)
 
 -- one of the list is named

@@ -1,17 +1,16 @@
 -- Requests that are made one after another: one more, all, and those up to one that is refused.
-use Rattle.std.proofs.Common.{◌≡◌, ◌≤◌, ◌<◌, ◌+◌, ◌∙◌, refl, sym, ap, subst, ℕ, List, [], ◌∷◌, ◌++◌, length, map, drop, drop-cons, get_or, add-one, append_assoc, append-nil}
+use Rattle.std.proofs.Common.{◌≡◌, ◌≢◌, ◌≤◌, ◌<◌, ◌+◌, ◌∙◌, refl, sym, ap, subst, ℕ, List, [], ◌∷◌, ◌++◌, length, drop, drop-cons, get_or, add-one, append_assoc, append-nil}
 use Rattle.std.proofs.lemmas.List.{drop_all}
-use Rattle.std.proofs.lemmas.List.Elements.{All-map}
 use Rattle.ods_request.specs.declared.refusals.Refusal.{Refusal}
+use Rattle.ods_request.specs.declared.refusals.Refusal.TheVariants as refusal
 use Rattle.ods_request.specs.declared.requests.Request.{Request}
-use Rattle.ods_filing.specs.Filed.{Filed, IsRefusedFor}
-use Rattle.ods_filing.specs.Led.{Asks, IsLed, IsObeyed, Permits}
-use Rattle.ods_repair.specs.Asked.{AsksAll, StopsAt}
+use Rattle.ods_filing.specs.Filed.{Filed}
+use Rattle.ods_repair.specs.Asked.{AsksAll, IsMade, IsNotMade, StopsAt}
 
 module _ {X : Type 0} (request : X → Request) (old : Filed) where
   -- one more
-  asks_more : (from mid new : Filed) (before : List X) (x : X) → AsksAll request from before mid → IsObeyed mid (request x) new → AsksAll request from (before ++ x ∷ []) new
-  asks_more from mid new [] x same done = (new, subst (λ f. IsObeyed f (request x) new) same done, refl)
+  asks_more : (from mid new : Filed) (before : List X) (x : X) → AsksAll request from before mid → IsMade mid (request x) new → AsksAll request from (before ++ x ∷ []) new
+  asks_more from mid new [] x same done = (new, subst (λ f. IsMade f (request x) new) same done, refl)
   asks_more from mid new (y ∷ before) x first done = (first.0, first.1, asks_more first.0 mid new before x first.2 done)
 
   -- the first i of them are made
@@ -27,7 +26,7 @@ module _ {X : Type 0} (request : X → Request) (old : Filed) where
   left_from : (all : List X) (i : ℕ) (x : X) → i < length all → x ≡ get_or all i x → drop i all ≡ x ∷ drop (i + 1) all
   left_from all i x within is = drop-cons all i x within ∙ (λ j. sym is j ∷ drop (sym (add-one i) j) all)
 
-  pub partly_more : (all : List X) (i : ℕ) (x : X) (mid new : Filed) → i < length all → x ≡ get_or all i x → IsPartly all i mid → IsObeyed mid (request x) new → IsPartly all (i + 1) new
+  pub partly_more : (all : List X) (i : ℕ) (x : X) (mid new : Filed) → i < length all → x ≡ get_or all i x → IsPartly all i mid → IsMade mid (request x) new → IsPartly all (i + 1) new
   partly_more all i x mid new within is p done = record {
     before = p.before ++ x ∷ [];
     whole = p.whole ∙ ap (λ l. p.before ++ l) (left_from all i x within is) ∙ sym (append_assoc p.before (x ∷ []) (drop (i + 1) all));
@@ -37,19 +36,13 @@ module _ {X : Type 0} (request : X → Request) (old : Filed) where
   pub partly_all : (all : List X) (i : ℕ) (new : Filed) → length all ≤ i → IsPartly all i new → AsksAll request old all new
   partly_all all i new end p = subst (λ l. AsksAll request old l new) (sym (p.whole ∙ ap (λ l. p.before ++ l) (drop_all i all end) ∙ append-nil p.before)) p.asked
 
-  pub partly_stops : (all : List X) (i : ℕ) (x : X) (mid new : Filed) (reason : Refusal) → i < length all → x ≡ get_or all i x → IsPartly all i mid → new ≡ mid → IsRefusedFor mid (request x) reason → StopsAt request old all new x reason
-  partly_stops all i x mid new reason within is p same refused = record {
+  pub partly_stops : (all : List X) (i : ℕ) (x : X) (mid new : Filed) (reason : Refusal) → i < length all → x ≡ get_or all i x → IsPartly all i mid → reason ≢ refusal.Denied → IsNotMade mid (request x) new reason → StopsAt request old all new x reason
+  partly_stops all i x mid new reason within is p undenied left = record {
     before = p.before;
     behind = drop (i + 1) all;
     order = p.whole ∙ ap (λ l. p.before ++ l) (left_from all i x within is);
-    asked = subst (λ f. AsksAll request old p.before f) (sym same) p.asked;
-    refused = subst (λ f. IsRefusedFor f (request x) reason) (sym same) refused;
-  }
-
-  -- requests of an allowed kind
-  pub led_all : (Allows : Request → Type 0) → ((x : X) → Allows (request x)) → (all : List X) (new : Filed) → AsksAll request old all new → IsLed Allows old new
-  led_all Allows fits all new asked = record {
-    deeds = map (λ x. Asks (request x)) all;
-    allowed = All-map (Permits Allows) (λ x. Asks (request x)) all (λ i d low. fits (get_or all i d));
-    leads = asked;
+    mid = mid;
+    asked = p.asked;
+    undenied = undenied;
+    left = left;
   }

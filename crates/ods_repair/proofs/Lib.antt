@@ -4,6 +4,7 @@ pub mod FreedFindings
 pub mod InCatalogue
 pub mod Keeping
 pub mod Stepping
+pub mod Bare
 pub mod Shedding
 pub mod Clearing
 pub mod Gaining

@@ -6,27 +6,18 @@ use Rattle.ods_request.specs.declared.refusals.Refusal.{Refusal}
 use Rattle.ods_check.specs.declared.dangling_list.Dangling.{Dangling}
 use Rattle.ods_check.specs.Repairs.{AreDangling}
 use Rattle.ods_filing.specs.Filed.{Filed}
-use Rattle.ods_filing.specs.Led.{IsLed}
-use Rattle.ods_repair.specs.Asked.{AsksAll, StopsAt}
-use Rattle.ods_repair.specs.Cleared.{IsNotCleared, RemovesEntries, removal_of}
-use Rattle.ods_repair.specs.Found.{AreNamed, EntersNext, IsNotFound, entry_of}
+use Rattle.ods_repair.specs.Asked.{StopsAt}
+use Rattle.ods_repair.specs.Cleared.{IsNotCleared, removal_of}
+use Rattle.ods_repair.specs.Found.{AreNamed, IsNotFound, entry_of}
 use Rattle.ods_repair.specs.declared.fault.RepairFault.{RepairFault}
 use Rattle.ods_repair.specs.declared.fault.RepairFault.TheVariants.{NotRemoved, NotEntered}
 use Rattle.ods_repair.specs.declared.lost_file.LostFile.{LostFile}
-use Rattle.ods_repair.proofs.Denying.{denied}
-use Rattle.ods_repair.proofs.InTurn.{led_all}
+use Rattle.ods_repair.proofs.Denying.{no_memory}
 
 pub not_cleared : (old new : Filed) → IsSoundBy old.image old.layout → (found : List Dangling) → AreDangling old.image old.layout found → (why : RepairFault) (x : Dangling) (reason : Refusal) → why ≡ NotRemoved x reason
     → StopsAt removal_of old found new x reason → IsNotCleared old new why
-not_cleared old new sound found are why x reason is stop = subst (IsNotCleared old new) (sym is) (denied old new sound found are x reason stop, (found, are, stop))
+not_cleared old new sound found are why x reason is stop = subst (IsNotCleared old new) (sym is) (no_memory old new sound found are x reason stop, (found, are, stop))
 
 pub not_found : (old new : Filed) (dir : FileId) (found : List LostFile) → AreNamed old.image old.layout found → (why : RepairFault) (x : LostFile) (reason : Refusal) → why ≡ NotEntered x reason
     → StopsAt (entry_of dir) old found new x reason → IsNotFound old dir new why
 not_found old new dir found are why x reason is stop = subst (IsNotFound old dir new) (sym is) (found, are, stop)
-
--- what is made is of the one kind, whether all is made or not
-pub removed_led : (old new : Filed) (found : List Dangling) → AsksAll removal_of old found new → IsLed RemovesEntries old new
-removed_led old new found asked = led_all removal_of old RemovesEntries (λ x. tt) found new asked
-
-pub entered_led : (dir : FileId) (old new : Filed) (found : List LostFile) → AsksAll (entry_of dir) old found new → IsLed EntersNext old new
-entered_led dir old new found asked = led_all (entry_of dir) old EntersNext (λ x. tt) found new asked

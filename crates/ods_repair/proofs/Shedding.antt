@@ -17,7 +17,8 @@ use Rattle.ods_repair.specs.Cleared.{removal_of}
 use Rattle.ods_repair.specs.Kept.{KeepsAll}
 use Rattle.ods_repair.proofs.InCatalogue.{names_in}
 use Rattle.ods_repair.proofs.Keeping.{keeps_itself, keeps_more}
-use Rattle.ods_repair.proofs.Stepping.{Renames, else_where, equal_keys, here, removing, keeps, same_key}
+use Rattle.ods_repair.proofs.Bare.{removed}
+use Rattle.ods_repair.proofs.Stepping.{Renames, else_where, equal_keys, here, keeps, same_key}
 
 -- Each file of the one is there in the other; the names of the other are those of the one that are not gone.
 pub record Sheds (C D : Catalogue) (gone : FileId → List ℕ → Type 0) : Type 0 where
@@ -90,9 +91,9 @@ sheds_more C D E x found one more = record {
 pub sheds_all : (old new : Filed) (found : List Dangling) (C : Catalogue) → ShowsBy old.image old.layout C → AsksAll removal_of old found new → (D : Catalogue) × ShowsBy new.image new.layout D × Sheds C D (IsOneOf found)
 sheds_all old new [] C shown same = (C, subst (λ (f : Filed). ShowsBy f.image f.layout C) (sym same) shown, sheds_none C)
 sheds_all old new (x ∷ found) C shown (mid, done, more) =
-    let step = done.1.steps C shown (λ id makes. absurd (let wrong : false ≡ true = makes in cc)) in
-    let one = sheds_one C step.0 x (removing C step.0 old.user x.directory x.line.name x.line.version done.0 step.1) in
-    let last = sheds_all mid new found step.0 step.2 more in
+    let step = removed old mid C shown x.directory x.line.name x.line.version done in
+    let one = sheds_one C step.0 x step.2 in
+    let last = sheds_all mid new found step.0 step.1 more in
     (last.0, last.1, sheds_more C step.0 last.0 x found one last.2)
 
 -- one of the list is one of them

@@ -48,24 +48,33 @@ pub record Renames (C D : Catalogue) (d : FileId) (names : NameMap) : Type 0 whe
   pub file : File
   pub there : finmap.get C.files d ≡ Some file
   pub directory : is_directory file.body ≡ true
-  pub left : D ≡ put_body C d (Directory names)
+  pub left : finmap.get D.files d ≡ Some (with_body file (Directory names))
+  pub others : (id : FileId) → eq_by_cmp file_cmp id d ≡ false → finmap.get D.files id ≡ finmap.get C.files id
+
+-- what is put for a directory that is there renames it
+renames : (C D : Catalogue) (d : FileId) (names : NameMap) (file : File) → finmap.get C.files d ≡ Some file → is_directory file.body ≡ true → D ≡ put_body C d (Directory names) → Renames C D d names
+renames C D d names file there directory is =
+    let at : file_at C d ≡ file = ap (λ (o : Option File). unwrap_or o no_file) there in
+    record {
+      file = file;
+      there = there;
+      directory = directory;
+      left = ap (λ (E : Catalogue). finmap.get E.files d) is ∙ get_put C d (with_body (file_at C d) (Directory names)) ∙ ap (λ f. Some (with_body f (Directory names))) at;
+      others = λ id other. ap (λ (E : Catalogue). finmap.get E.files id) is ∙ get_other C d (with_body (file_at C d) (Directory names)) id other;
+    }
 
 module _ (C D : Catalogue) (d : FileId) (names : NameMap) (r : Renames C D d names) where
   pub here : names_in D d ≡ names
-  here = ap (λ (E : Catalogue). names_in E d) r.left ∙ ap (λ (o : Option File). names_of (unwrap_or o no_file).body) (get_put C d (with_body (file_at C d) (Directory names)))
+  here = ap (λ (o : Option File). names_of (unwrap_or o no_file).body) r.left
 
   pub else_where : (id : FileId) → eq_by_cmp file_cmp id d ≡ false → names_in D id ≡ names_in C id
-  else_where id other = ap (λ (E : Catalogue). names_in E id) r.left ∙ ap (λ (o : Option File). names_of (unwrap_or o no_file).body) (get_other C d (with_body (file_at C d) (Directory names)) id other)
+  else_where id other = ap (λ (o : Option File). names_of (unwrap_or o no_file).body) (r.others id other)
 
   -- the same files are there
   pub same_files : (id : FileId) → is_some (finmap.get D.files id) ≡ is_some (finmap.get C.files id)
   same_files id = elim (ids id d) [
-    | inl same ↦
-        ap (λ (E : Catalogue). is_some (finmap.get E.files id)) r.left
-        ∙ ap (λ q. is_some (finmap.get (put_body C d (Directory names)).files q)) same
-        ∙ ap is_some (get_put C d (with_body (file_at C d) (Directory names)))
-        ∙ ap is_some (sym r.there) ∙ ap (λ q. is_some (finmap.get C.files q)) (sym same)
-    | inr apart ↦ ap (λ (E : Catalogue). is_some (finmap.get E.files id)) r.left ∙ ap is_some (get_other C d (with_body (file_at C d) (Directory names)) id apart.1)
+    | inl same ↦ ap (λ q. is_some (finmap.get D.files q)) same ∙ ap is_some r.left ∙ ap is_some (sym r.there) ∙ ap (λ q. is_some (finmap.get C.files q)) (sym same)
+    | inr apart ↦ ap is_some (r.others id apart.1)
   ]
 
   -- and each is kept, but for the names of the directory
@@ -74,14 +83,10 @@ module _ (C D : Catalogue) (d : FileId) (names : NameMap) (r : Renames C D d nam
     where
       each : (id : FileId) (f : File) → finmap.get C.files id ≡ Some f → (id ≡ d) ⊎ ((¬ (id ≡ d)) × (eq_by_cmp file_cmp id d ≡ false)) → (g : File) × ((finmap.get D.files id ≡ Some g) × KeepsFile f g)
       each id f e (inl same) =
-          let here : finmap.get C.files d ≡ Some f = ap (finmap.get C.files) (sym same) ∙ e in
-          let is : r.file ≡ f = same_Some r.file f (sym r.there ∙ here) in
-          let at : file_at C d ≡ f = ap (λ (o : Option File). unwrap_or o no_file) here in
-          let put : finmap.get D.files id ≡ Some (with_body (file_at C d) (Directory names)) =
-          ap (λ (E : Catalogue). finmap.get E.files id) r.left ∙ ap (λ q. finmap.get (put_body C d (Directory names)).files q) same ∙ get_put C d (with_body (file_at C d) (Directory names)) in
-          (with_body (file_at C d) (Directory names), (put, (ap (λ (x : File). with_body (with_body x (Directory names)) f.body) at, λ plain. absurd (let wrong : true ≡ false = sym r.directory ∙ ap (λ (x : File). is_directory x.body) is ∙ plain in cc))))
-      each id f e (inr apart) =
-          (f, (ap (λ (E : Catalogue). finmap.get E.files id) r.left ∙ get_other C d (with_body (file_at C d) (Directory names)) id apart.1 ∙ e, (refl, λ plain. refl)))
+          let is : r.file ≡ f = same_Some r.file f (sym r.there ∙ ap (finmap.get C.files) (sym same) ∙ e) in
+          let put : finmap.get D.files id ≡ Some (with_body r.file (Directory names)) = ap (finmap.get D.files) same ∙ r.left in
+          (with_body r.file (Directory names), (put, (ap (λ (x : File). with_body (with_body x (Directory names)) f.body) is, λ plain. absurd (let wrong : true ≡ false = sym r.directory ∙ ap (λ (x : File). is_directory x.body) is ∙ plain in cc))))
+      each id f e (inr apart) = (f, (r.others id apart.1 ∙ e, (refl, λ plain. refl)))
 
 -- Remove takes this very entry out
 pub removing : (C D : Catalogue) (who : Uic) (d : FileId) (name : RadName) (version : ℕ) (a : Answer) → step C who (Remove d name (Exact version)) a ≡ Some D
@@ -92,7 +97,7 @@ removing C D who d name version a e =
     let made = determined C D who (Remove d name (Exact version)) a refl e in
     let at : p.file ≡ file_at C d = sym (ap (λ (o : Option File). unwrap_or o no_file) p.there) in
     let found : found_version C d name (Exact version) ≡ version = by (finmap.contains_key (names_in C d) (key_of name version)) (ap (λ (f : File). is_none (picked_version (names_of f.body) name (Exact version))) (sym at) ∙ p.none.1.1.0) in
-    record { file = p.file; there = p.there; directory = not-false (is_directory p.file.body) p.none.0; left = made.1 ∙ ap (λ v. put_body C d (Directory (finmap.remove (names_in C d) (key_of name v)))) found }
+    renames C D d (finmap.remove (names_in C d) (key_of name version)) p.file p.there (not-false (is_directory p.file.body) p.none.0) (made.1 ∙ ap (λ v. put_body C d (Directory (finmap.remove (names_in C d) (key_of name v)))) found)
   where
     by : (b : Bool) → is_none (cond b (Some version) None) ≡ false → unwrap_or (cond b (Some version) None) 0 ≡ version
     by true h = refl
@@ -102,7 +107,7 @@ removing C D who d name version a e =
 pub record Enters (C D : Catalogue) (d : FileId) (name : RadName) (file : FileId) : Type 0 where
   pub version : ℕ
   pub free : finmap.get (names_in C d) (key_of name version) ≡ None
-  pub renames : Renames C D d (finmap.insert (names_in C d) (key_of name version) file)
+  pub renamed : Renames C D d (finmap.insert (names_in C d) (key_of name version) file)
 
 -- the version behind the last is not there
 not_there : (names : NameMap) (name : RadName) → length name.words ≡ 3 → finmap.get names (key_of name (last_version names name + 1)) ≡ None
@@ -121,5 +126,5 @@ entering C D who d file name a three e =
     record {
       version = last_version (names_in C d) name + 1;
       free = not_there (names_in C d) name three;
-      renames = record { file = p.file; there = p.there; directory = not-false (is_directory p.file.body) p.none.1.0; left = made.1 };
+      renamed = renames C D d (finmap.insert (names_in C d) (key_of name (last_version (names_in C d) name + 1)) file) p.file p.there (not-false (is_directory p.file.body) p.none.1.0) made.1;
     }

@@ -1,5 +1,5 @@
 -- Names that name no file are deleted: the requests, their result, and the reason why not all are made.
-use Rattle.std.specs.Prelude.{◌≡◌, ◌⊎◌, ◌↔◌, ℕ, List}
+use Rattle.std.specs.Prelude.{◌≡◌, ◌↔◌, ℕ, List}
 use Rattle.ods_base.specs.declared.listed.Listed.{Listed}
 use Rattle.ods_base.specs.declared.name.Pick.TheVariants.{Exact}
 use Rattle.ods_request.specs.declared.refusals.Refusal.TheVariants as refusal
@@ -18,11 +18,6 @@ use Rattle.ods_repair.specs.declared.fault.RepairFault.TheVariants.{NoMemory, No
 abbrev pub removal_of : Dangling → Asked
 removal_of x = Remove x.directory x.line.name (Exact x.line.version)
 
--- only entries are removed
-abbrev pub RemovesEntries : Asked → Type 0
-RemovesEntries (Remove dir name (Exact version)) = Unit {0}
-RemovesEntries r = ⊥
-
 -- All names that named no file were removed, in this order, and nothing else was done.
 pub record IsCleared (old : Filed) (found : List Dangling) (new : Filed) : Type 0 where
   pub are : AreDangling old.image old.layout found
@@ -33,10 +28,8 @@ pub record IsCleared (old : Filed) (found : List Dangling) (new : Filed) : Type 
   -- the names are those that named a file, and each names the file that it named
   pub kept : (d : ℕ) (line : Listed) → HasName new.image new.layout d line ↔ (HasName old.image old.layout d line × IsIdOfFile old.image old.layout line.file)
 
--- The reason why not all of them were removed. There is no memory for their list, and the volume is unchanged. Or the earlier entries were removed,
--- and this one is refused: its directory denies the user Write, or memory runs out.
+-- Why not all of them were removed: memory ran out. The volume is unchanged, or the earlier entries were removed, and this one was not.
 abbrev pub IsNotCleared : Filed → Filed → RepairFault → Type 0
 IsNotCleared old new NoMemory = new ≡ old
-IsNotCleared old new (NotRemoved x reason) =
-    ((reason ≡ refusal.Denied) ⊎ (reason ≡ refusal.NoMemory)) × ((found : List Dangling) × AreDangling old.image old.layout found × StopsAt removal_of old found new x reason)
+IsNotCleared old new (NotRemoved x reason) = (reason ≡ refusal.NoMemory) × ((found : List Dangling) × AreDangling old.image old.layout found × StopsAt removal_of old found new x reason)
 IsNotCleared old new _ = ⊥

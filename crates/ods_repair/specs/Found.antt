@@ -36,11 +36,6 @@ pub record AreNamed (I : List (List ℕ)) (L : VolumeLayout) (found : List LostF
 abbrev pub entry_of : FileId → LostFile → Asked
 entry_of dir x = Enter dir x.name None x.file
 
--- only files are entered, with the next version of a name
-abbrev pub EntersNext : Asked → Type 0
-EntersNext (Enter dir name None file) = Unit {0}
-EntersNext r = ⊥
-
 -- Each lost file whose header has a name was entered in the directory under that name, in this order, and nothing else was done.
 pub record IsFound (old : Filed) (dir : FileId) (found : List LostFile) (new : Filed) : Type 0 where
   pub are : AreNamed old.image old.layout found
@@ -52,7 +47,7 @@ pub record IsFound (old : Filed) (dir : FileId) (found : List LostFile) (new : F
   pub kept : (d : ℕ) (line : Listed) → HasName old.image old.layout d line → HasName new.image new.layout d line
 
 -- The reason why not all of them were entered. There is no memory for their list, and the volume is unchanged. Or the earlier files were entered,
--- and this one is refused.
+-- and this one was not, for a reason that is not a right.
 abbrev pub IsNotFound : Filed → FileId → Filed → RepairFault → Type 0
 IsNotFound old dir new NoMemory = new ≡ old
 IsNotFound old dir new (NotEntered x reason) = (found : List LostFile) × AreNamed old.image old.layout found × StopsAt (entry_of dir) old found new x reason

@@ -5,8 +5,7 @@ ghost use Rattle.ods_space.specs.Disks.{on, seen};
 ghost use Rattle.ods_space.specs.Files.{IsFile};
 ghost use Rattle.ods_check.specs.Repairs.{AreLost};
 ghost use Rattle.ods_request.specs.declared.requests.Request.{Request as Asked};
-ghost use Rattle.ods_filing.specs.Led.{IsLed};
-ghost use Rattle.ods_repair.specs.Found.{AreNamed, EntersNext, IsFound, IsNotFound, name_at};
+ghost use Rattle.ods_repair.specs.Found.{AreNamed, IsFound, IsNotFound, name_at};
 
 use crate::RepairFault;
 use crate::asking::{Plan, ask_all};
@@ -22,15 +21,13 @@ use std::alloc::{AllocError, Global};
 
 /// Enters in a directory each file above 5 that no directory names, with the name in its header and the next version. Returns the entered files in
 /// ascending order of their numbers. A lost directory is entered too. A file whose header has no name stays lost. All files are found before the
-/// first one is entered. The user of the volume makes the requests, and needs the right Write to the directory. After a refusal, the files before
-/// the refused one are entered.
+/// first one is entered. No right is required: a directory that denies the request denies nothing while it is made, and then has its protection again.
+/// After a refusal, the files before the refused one are entered. When out of memory, the directory may be without its protection.
 pub fn enter_lost(
     alloc: Global,
     filing: &mut Filing,
     dir: FileId,
 ) -> Result<Vec<LostFile>, RepairFault>
-    // Refused or not, it is what entering files leaves.
-    ensures led { IsLed EntersNext filing.old filing.new }
     // Done, those files alone are lost whose headers have no name, and each name is there that was.
     ensures done { IfOk result (λ found. IsFound filing.old dir found.items filing.new) }
     // The volume refuses to enter one, or there is no memory.
@@ -98,6 +95,10 @@ impl Plan for Entering {
     ghost request_of = { λ s. entry_of s.dir };
 
     ghost fault_of = { NotEntered };
+
+    fn directory(&self, _item: LostFile) -> FileId {
+        self.dir
+    }
 
     fn request(&self, item: LostFile) -> Request {
         entry(self.dir, item.name, item.file)

@@ -2,8 +2,7 @@
 ghost use Rattle.std.specs.Prelude.{◌≡◌, IfErr, IfOk};
 ghost use Rattle.ods_base.specs.declared.name.Pick.{Pick as Picked};
 ghost use Rattle.ods_request.specs.declared.requests.Request.{Request as Asked};
-ghost use Rattle.ods_filing.specs.Led.{IsLed};
-ghost use Rattle.ods_repair.specs.Cleared.{IsCleared, IsNotCleared, RemovesEntries};
+ghost use Rattle.ods_repair.specs.Cleared.{IsCleared, IsNotCleared};
 
 use crate::RepairFault;
 use crate::asking::{Plan, ask_all};
@@ -14,14 +13,13 @@ use ods_request::{Refusal, Request};
 use std::alloc::Global;
 
 /// Removes each entry of each directory that names no file, by its name and its version. Returns the removed entries, sorted by directory number
-/// and then by name. All entries are found before the first one is removed. The user of the volume makes the requests, and needs the right Write to
-/// each of these directories. After a refusal, the entries before the refused one are removed.
+/// and then by name. All entries are found before the first one is removed. No right is required: a directory that denies the request denies nothing
+/// while it is made, and then has its protection again. It fails only when out of memory. The earlier entries are then removed, and one directory may
+/// be without its protection.
 pub fn remove_dangling(alloc: Global, filing: &mut Filing) -> Result<Vec<Dangling>, RepairFault>
-    // Refused or not, it is what removing entries leaves.
-    ensures led { IsLed RemovesEntries filing.old filing.new }
     // Done, no name is left that names no file, and each other name is there.
     ensures done { IfOk result (λ found. IsCleared filing.old found.items filing.new) }
-    // A directory denies the user the right, or there is no memory.
+    // There is no memory.
     ensures refused { IfErr result (IsNotCleared filing.old filing.new) }
 {
     let found = find_dangling(alloc, &filing.disk())?;
@@ -47,6 +45,10 @@ impl Plan for Removing {
     ghost request_of = { λ _. removal_of };
 
     ghost fault_of = { NotRemoved };
+
+    fn directory(&self, item: Dangling) -> FileId {
+        item.directory
+    }
 
     fn request(&self, item: Dangling) -> Request {
         let line = item.line;

@@ -60,11 +60,11 @@ own_copy placing to name stamp facts old mid filed user attributes bytes version
     (subst (λ a. IsMadeFor placing user to.directory to.version (record { name = name; version = version; stamp = stamp }) a bytes file mid filed) are made)
 
 -- a copy is made
-pub copy_made : (placing : Placing) (to : Target) (name : RadName) (stamp : List ℕ) (facts : Facts) (old mid filed new : Filed) (user : Uic) (attributes bytes : List ℕ) (version : ℕ) (file : FileId)
+pub copy_made : (placing : Placing) (to : Target) (name : RadName) (stamp : List ℕ) (whose : Option Uic) (facts : Facts) (old mid filed new : Filed) (user : Uic) (attributes bytes : List ℕ) (version : ℕ) (file : FileId)
     → user ≡ old.user → attributes ≡ true_for facts.attributes facts.blocks → IsNextVersion old to.directory name to.version version mid
     → IsMadeFor placing user to.directory to.version (record { name = name; version = version; stamp = stamp }) attributes bytes file mid filed
-    → HasGiven filed file None (Some facts.protection) new → IsCopyMade placing to name stamp facts bytes old new
-copy_made placing to name stamp facts old mid filed new user attributes bytes version file is are next made given = record {
+    → HasGiven filed file whose (Some facts.protection) new → IsCopyMade placing to name stamp whose facts bytes old new
+copy_made placing to name stamp whose facts old mid filed new user attributes bytes version file is are next made given = record {
   version = version;
   mid = mid;
   next = next;
@@ -94,7 +94,7 @@ copy_not_given placing to name stamp facts old mid filed new user attributes byt
 -- a file is copied
 pub is_copied : (placing : Placing) (to : Target) (stamp : List ℕ) (found : Found) (old new : Filed) (user : Uic) (facts : Facts) (name : RadName) (bytes lent : List ℕ)
     → user ≡ old.user → IsCopyable (Some user) to found facts name → ((body : Body) × HasBody old.image old.layout facts.file.number body × (bytes_in Raw body ≡ Some bytes))
-    → lent ≡ bytes → IsCopyMade placing to name stamp facts lent old new → IsCopied placing to stamp found old new
+    → lent ≡ bytes → IsCopyMade placing to name stamp None facts lent old new → IsCopied placing to stamp found old new
 is_copied placing to stamp found old new user facts name bytes lent is copyable read same made = record {
   facts = facts;
   name = name;
@@ -103,7 +103,7 @@ is_copied placing to stamp found old new user facts name bytes lent is copyable 
   held = read.1;
   bytes = bytes;
   all = read.2;
-  made = subst (λ b. IsCopyMade placing to name stamp facts b old new) same made;
+  made = subst (λ b. IsCopyMade placing to name stamp None facts b old new) same made;
 }
 
 -- it may not be copied

@@ -1,7 +1,8 @@
 -- Files of another volume that are copied, one after another.
-use Rattle.std.proofs.Common.{◌≡◌, ◌+◌, ◌<◌, ◌∙◌, refl, sym, ap, subst, ℕ, List, length, get_or, drop, Some, inl, inr}
+use Rattle.std.proofs.Common.{◌≡◌, ◌+◌, ◌<◌, ◌∙◌, refl, sym, ap, subst, ℕ, false, List, length, get_or, drop, Option, Some, None, inl, inr}
 use Rattle.std.specs.String.{string_bytes}
 use Rattle.ods_base.specs.Name.{RadName}
+use Rattle.ods_base.specs.declared.file_id.Uic.{Uic}
 use Rattle.ods_files.specs.Body.{Body, HasBody, bytes_in}
 use Rattle.ods_files.specs.declared.form.Form.TheVariants.{Raw}
 use Rattle.ods_space.specs.Layout.{VolumeLayout}
@@ -10,7 +11,7 @@ use Rattle.ods_shell.specs.declared.facts.Facts.{Facts}
 use Rattle.ods_shell.specs.declared.found.Found.{Found}
 use Rattle.ods_upkeep.specs.Begun.{placing_by}
 use Rattle.ods_upkeep.specs.Copied.{IsCopyMade, IsCopyable, IsUncopyable, IsUnread}
-use Rattle.ods_upkeep.specs.CopiedFrom.{AreCopiedOver, IsCopiedOver, placing_of, stamp_for, target_for}
+use Rattle.ods_upkeep.specs.CopiedFrom.{AreCopiedOver, IsCopiedOver, owner_carried, placing_of, stamp_for, target_for}
 use Rattle.ods_upkeep.specs.Refused.{HasPath}
 use Rattle.ods_upkeep.specs.Uncopied.{IsCopyUnmade}
 use Rattle.ods_upkeep.specs.UncopiedFrom.{IsNotCopiedOver, StopsCopyingOver, uncopyable, unmade, unread}
@@ -36,12 +37,16 @@ as_asked P how to place stamp date found facts placing bytes lent placed goes da
     (subst (λ s. P placing place s bytes) dated
     (subst (λ b. P placing place date b) same holds)))
 
+-- an owner is given only where owners are kept
+pub only_kept : (how : CopyFrom) (user owner : Uic) (whose : Option Uic) → whose ≡ owner_carried how.owners user owner → how.owners ≡ false → whose ≡ None
+only_kept how user owner whose owns none = owns ∙ ap (λ k. owner_carried k user owner) none
+
 -- a file is copied
-pub is_copied_over : (I : List (List ℕ)) (L : VolumeLayout) (how : CopyFrom) (to place : Target) (stamp date : List ℕ) (found : Found) (old new : Filed) (facts : Facts) (name : RadName) (placing : Placing) (bytes lent : List ℕ)
+pub is_copied_over : (I : List (List ℕ)) (L : VolumeLayout) (how : CopyFrom) (to place : Target) (stamp date : List ℕ) (found : Found) (old new : Filed) (facts : Facts) (name : RadName) (placing : Placing) (bytes lent : List ℕ) (user : Uic) (whose : Option Uic)
     → IsCopyable how.reader to found facts name → ((body : Body) × HasBody I L facts.file.number body × (bytes_in Raw body ≡ Some bytes))
     → placing ≡ placing_of how facts → place ≡ target_for to found facts how.next → date ≡ stamp_for facts stamp → lent ≡ bytes
-    → IsCopyMade placing place name date facts lent old new → IsCopiedOver I L how to stamp found old new
-is_copied_over I L how to place stamp date found old new facts name placing bytes lent copyable read placed goes dated same made = record {
+    → user ≡ old.user → whose ≡ owner_carried how.owners user facts.owner → IsCopyMade placing place name date whose facts lent old new → IsCopiedOver I L how to stamp found old new
+is_copied_over I L how to place stamp date found old new facts name placing bytes lent user whose copyable read placed goes dated same asks owns made = record {
   facts = facts;
   name = name;
   copyable = copyable;
@@ -49,7 +54,8 @@ is_copied_over I L how to place stamp date found old new facts name placing byte
   held = read.1;
   bytes = bytes;
   all = read.2;
-  made = as_asked (λ p t s b. IsCopyMade p t name s facts b old new) how to place stamp date found facts placing bytes lent placed goes dated same made;
+  made = as_asked (λ p t s b. IsCopyMade p t name s (owner_carried how.owners old.user facts.owner) facts b old new) how to place stamp date found facts placing bytes lent placed goes dated same
+      (subst (λ o. IsCopyMade placing place name date o facts lent old new) (owns ∙ ap (λ u. owner_carried how.owners u facts.owner) asks) made);
 }
 
 -- it may not be copied

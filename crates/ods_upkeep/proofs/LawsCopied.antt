@@ -34,7 +34,7 @@ use Rattle.ods_shell.specs.declared.folders.Directory.{Directory}
 use Rattle.ods_shell.specs.declared.found.Found.{Found}
 use Rattle.ods_walk.specs.declared.tables.Line.{Line}
 use Rattle.ods_upkeep.specs.Copied.{NamesCopy, true_for}
-use Rattle.ods_upkeep.specs.CopiedFrom.{AreCopiedOver, AreFilesFrom, IsCopiedOver, placing_of, stamp_for, version_for, AreAllCopiedOver}
+use Rattle.ods_upkeep.specs.CopiedFrom.{AreCopiedOver, AreFilesFrom, IsCopiedOver, owner_carried, placing_of, stamp_for, version_for, AreAllCopiedOver}
 use Rattle.ods_upkeep.specs.CopiesThere.{AreAlike, AreTrueOf, CopiedIsThere, CopiesAreThere, CopyIsThere, HasAllOf, HasCopy, HaveSameBytes, IsCopyIn, IsKnownBy}
 use Rattle.ods_upkeep.specs.Sources.{AreFirst, AreOfPaths}
 use Rattle.ods_upkeep.specs.declared.asked.CopyFrom.{CopyFrom}
@@ -165,7 +165,7 @@ module _ (I : List (List ℕ)) (L : VolumeLayout) (how : CopyFrom) (to : Target)
     given_there C s =
         let facts : Facts = copied.facts in
         given_left (placing_of how facts) old.user to.directory (version_for to found facts how.next) (record { name = copied.name; version = copied.made.version; stamp = stamp_for facts stamp })
-        (true_for facts.attributes facts.blocks) copied.bytes facts.protection copied.made.file copied.made.mid copied.made.filed new C s copied.made.made copied.made.given
+        (true_for facts.attributes facts.blocks) copied.bytes (owner_carried how.owners old.user facts.owner) facts.protection copied.made.file copied.made.mid copied.made.filed new C s copied.made.made copied.made.given
 
     all_left : IsAllLeft old new
     all_left =

@@ -204,6 +204,29 @@ plain_stays C D who dir file name given a q f e there plain =
         let wrong : true ≡ false = sym is.is_directory ∙ ap (λ (g : File). is_directory g.body) is_that ∙ plain in
         absurd (cc)
 
+-- Each directory stays one when a file is entered.
+pub directory_stays : (C D : Catalogue) (who : Uic) (dir file : FileId) (name : RadName) (given : Option ℕ) (version : ℕ) (q : FileId) (f : File) → step C who (Enter dir name given file) (Entered version) ≡ Some D
+    → map.get C.files q ≡ Some f → is_directory f.body ≡ true → (g : File) × ((map.get D.files q ≡ Some g) × (is_directory g.body ≡ true))
+directory_stays C D who dir file name given version q f e there is = by (ids q dir)
+  where
+    names : NameMap
+    names = map.insert (names_of (file_at C dir).body) (key_of name version) file
+
+    same_one : (x y : FileId) → Some x ≡ Some y → x ≡ y
+    same_one x y g = cc
+
+    by : (q ≡ dir) ⊎ ((q ≢ dir) × (eq_by_cmp file_cmp q dir ≡ false)) → (g : File) × ((map.get D.files q ≡ Some g) × (is_directory g.body ≡ true))
+    by (inl same) = (
+      with_body (file_at C dir) (Directory names),
+      (
+        ap (map.get D.files) same
+            ∙ ap (λ (F : Catalogue). map.get F.files dir) (left_as C D dir file name given version (entering C D who dir file name given (Entered version) e))
+            ∙ get_here file_cmp-total file_cmp-antisymmetric C.files dir (with_body (file_at C dir) (Directory names)),
+        refl,
+      ),
+    )
+    by (inr apart) = (f, (others_stay C D who (Enter dir name given file) (Entered version) q e (λ same. apart.0 (sym (same_one dir q same))) ∙ there, is))
+
 -- so does the file that is entered
 pub other_file : (C D : Catalogue) (who : Uic) (dir file : FileId) (name : RadName) (given : Option ℕ) (a : Answer) (f : File) → step C who (Enter dir name given file) a ≡ Some D
     → map.get C.files file ≡ Some f → is_directory f.body ≡ false → map.get D.files file ≡ Some f

@@ -1,5 +1,5 @@
 -- Why a file of a tree of the host that was put is got back.
-use Rattle.std.proofs.Common.{◌≡◌, ℕ, ◌+◌, ◌-◌, ◌/◌, ◌%◌, ◌≤◌, refl, sym, ap, ◌∙◌, subst, true, false, List, [], ◌∷◌, ◌++◌, length, replicate, Option, Some, None, unwrap_or, arith, inl, inr}
+use Rattle.std.proofs.Common.{◌≡◌, ℕ, ◌+◌, ◌/◌, ◌%◌, ◌≤◌, refl, sym, ap, ◌∙◌, subst, true, false, List, [], ◌∷◌, ◌++◌, length, replicate, Option, Some, None, unwrap_or, arith, inl, inr}
 use Rattle.std.specs.Prelude.{◌&&◌, ◌||◌, MatchBool}
 use Rattle.std.specs.List.{All, list_all}
 use Rattle.std.specs.Option.{option_or}
@@ -16,7 +16,7 @@ use Rattle.ods_files.specs.Body.{Body, bytes_in}
 use Rattle.ods_files.specs.declared.form.Form.TheVariants as form
 use Rattle.ods_filing.specs.Filed.{Filed}
 use Rattle.ods_filing.specs.Laws.{GivesBack, ShowsBytes}
-use Rattle.ods_filing.specs.Put.{Heading, blocks_with}
+use Rattle.ods_filing.specs.Put.{Heading, block_count, blocks_with}
 use Rattle.ods_records.specs.Attributes.{attributes, end_block, end_of, is_controlled, kind_in}
 use Rattle.ods_records.specs.Lines.{IsPlainText}
 use Rattle.ods_records.specs.Records.{Spells, text_of, word_at}
@@ -40,7 +40,7 @@ use Rattle.ods_upkeep.specs.HostPut.{IsVersionFor}
 use Rattle.ods_upkeep.specs.Pieces.{with_end}
 use Rattle.ods_upkeep.specs.PutBack.{AFile, AFolder, AreItemsPut, IsFolderThere, IsItemBack, IsItemPut, IsLeafBack, KeepsBytes, LeafComesBack, TreeComesBack, TreeItem}
 use Rattle.ods_upkeep.specs.TreeNames.{IsTreeName, SaysFolders}
-use Rattle.ods_upkeep.specs.PutFor.{IsProtected}
+use Rattle.ods_upkeep.specs.Replaced.{KeepsAccess}
 use Rattle.ods_upkeep.specs.TreePut.{IsFolderPut, IsLeafPut}
 use Rattle.ods_upkeep.specs.Wayside.{IsParted}
 use Rattle.ods_upkeep.specs.Written.{AreBytes, AreRecords, IsByContents, IsWritten}
@@ -232,7 +232,7 @@ module _ (how : TreeForm) (dir : FileId) (path bytes : List ℕ) (old new : File
       let heading : Heading = record { name = leaf.put.name; version = done.version; stamp = how.stamp } in
       let own = leaf.put.attributes in
       let stored = leaf.put.stored in
-      let same : new ≡ done.filed = subst (λ o. IsProtected o done.file done.filed new) done.room.1 done.given in
+      let same : new ≡ done.filed = subst (λ o. KeepsAccess how.owner how.placing (block_count stored) o done.file done.filed new) done.room.1 done.given in
       subst (λ f. IsPlainLeft C leaf.place (option_or done.free leaf.version) heading own stored done.file f) (sym same)
       (made_left how.placing (unwrap_or how.owner leaf.there.user) leaf.place (option_or done.free leaf.version) heading own stored done.file done.seen done.filed C s done.made)
 

@@ -50,8 +50,8 @@ file_stays old there counts left file count is taken are some =
     subst (λ b. Does old (cond b (Delete file ∷ []) []) old) (sym (ne_eqb (left file.number) 0 (λ none. some (are ∙ none)))) refl in
     subst (λ b. Does old (file_left b (counts_left b counts file) file) old) (sym is) (subst (λ n. Does old (file_left true n file) old) taken here)
 
--- The entry is removed, and whether its file exists is known by its protection.
-module _ (dir : FileId) (name : RadName) (version : ℕ) (file : FileId) (before : List ℕ) (old known mid new : Filed) (held : Option ℕ) (there : Bool) (is : there ≡ is_some held) (shown : IsThere old file held known)
+-- The entry is removed, and whether its file exists is known by what a Stat shows of it.
+module _ (dir : FileId) (name : RadName) (version : ℕ) (file : FileId) (before : List ℕ) (old known mid new : Filed) (held : Option Shown) (there : Bool) (is : there ≡ is_some held) (shown : IsThere old file held known)
     (gone : IsObeyed known (Remove dir name (Exact version)) mid) where
   -- so is the file, if no other entry names it
   pub name_goes : (after : List ℕ) → slice_index after ≡ counts_left there (slice_index before) file → Does mid (file_left there (counts_left there (slice_index before) file) file) new

@@ -1,6 +1,6 @@
 -- What putting a file leaves of the volume, for the user and for the file's owner.
 use Rattle.std.proofs.Common.{◌≡◌, ◌∙◌, refl, ap, sym, subst, inl, inr, ℕ, List, [], ◌∷◌, Bool, true, false, cond, Option, Some, None, is_some, map}
-use Rattle.std.specs.Prelude.{nat_eq, slice_index, unwrap_or}
+use Rattle.std.specs.Prelude.{◌≢◌, nat_eq, slice_index, unwrap_or}
 use Rattle.std.specs.List.{All}
 use Rattle.std.specs.Option.{option_or}
 use Rattle.std.proofs.lemmas.List.Elements.{All-cons, All-nil}
@@ -8,22 +8,24 @@ use Rattle.ods_base.specs.Name.{RadName}
 use Rattle.ods_base.specs.declared.file_id.FileId.{FileId}
 use Rattle.ods_base.specs.declared.file_id.Uic.{Uic}
 use Rattle.ods_base.specs.declared.name.Pick.TheVariants.{Exact, Highest}
+use Rattle.ods_request.specs.declared.answers.Stat.{Stat as Shown}
 use Rattle.ods_request.specs.declared.requests.Request.{Request}
 use Rattle.ods_request.specs.declared.requests.Request.TheVariants.{Delete, Enter, LookUp, Remove, Stat}
 use Rattle.ods_filing.specs.Filed.{Filed, for_another}
 use Rattle.ods_filing.specs.Led.{Asks, IsLed, IsObeyed, Permits}
-use Rattle.ods_filing.specs.Put.{Heading}
+use Rattle.ods_filing.specs.Put.{Heading, block_count}
 use Rattle.ods_filing.proofs.Led.{allows_more, led_to, obeyed, same_user, stays, then_led, then_obeyed}
 use Rattle.ods_upkeep.specs.HostPut.{AreCountedOn, AreNotedOn, IsHostPut, IsPutAs, IsStill, IsVersionFor}
 use Rattle.ods_upkeep.specs.Kinds.{Copies, Puts}
 use Rattle.ods_upkeep.specs.Left.{InPut, replaces}
-use Rattle.ods_upkeep.specs.Legs.{IsLeg, IsPutLed}
-use Rattle.ods_upkeep.specs.PutFor.{IsMadeFor, IsProtected, IsPut, IsStored}
+use Rattle.ods_upkeep.specs.Legs.{IsKeptLeg, IsPutLed}
+use Rattle.ods_upkeep.specs.PutFor.{IsMadeFor, IsPut, IsStored}
 use Rattle.ods_upkeep.specs.Removed.{Does}
-use Rattle.ods_upkeep.specs.Rooms.{IsFreed, IsRoomMade, IsThere, counts_left, file_left, pick_for}
+use Rattle.ods_upkeep.specs.Replaced.{KeepsAccess, placing_kept}
+use Rattle.ods_upkeep.specs.Rooms.{IsFreed, IsReplaced, IsRoomMade, IsThere, counts_left, file_left, pick_for}
 use Rattle.ods_upkeep.specs.Versions.{Noted}
 use Rattle.ods_upkeep.specs.declared.asked.Placing.{Placing}
-use Rattle.ods_upkeep.specs.declared.asked.Placing.TheVariants.{Anywhere}
+use Rattle.ods_upkeep.specs.declared.asked.Placing.TheVariants.{Anywhere, InOnePiece}
 use Rattle.ods_upkeep.proofs.Lists.{copies_puts, fills_copies}
 
 -- a file that the user makes for himself
@@ -50,22 +52,26 @@ file_leaves true counts file = deletes (nat_eq (counts file.number) 0) file
 file_leaves false counts file = All-nil (Permits (Puts true))
 
 -- it is looked at
-shown_led : (held : Option ℕ) (file : FileId) (old new : Filed) → IsThere old file held new → IsLed (Puts true) old new
-shown_led (Some protection) file old new shown = obeyed (Stat file) refl (_, shown.1)
-shown_led None file old new shown = led_to new shown.1 (stays old)
+shown_led : (held : Option Shown) (file : FileId) (old new : Filed) → IsThere old file held new → IsLed (Puts true) old new
+shown_led (Some shown) file old new there = obeyed (Stat file) refl (_, there.0)
+shown_led None file old new there = led_to new there.1 (stays old)
 
-freed_led : (dir : FileId) (name : RadName) (said : Option ℕ) (version : ℕ) (held : Option ℕ) (before after : List ℕ) (old new : Filed) → IsFreed dir name said version held before after old new → IsLed (Puts true) old new
+-- its entry goes, and it
+gone_led : (dir : FileId) (name : RadName) (version : ℕ) (file : FileId) (held : Option Shown) (before after : List ℕ) (old new : Filed) → (r : IsReplaced dir name version file held before after old new) → IsLed (Puts true) r.known new
+gone_led dir name version file held before after old new r =
+    let there : Bool = is_some held in
+    let left : List Request = file_left there (counts_left there (slice_index before) file) file in
+    does_led (Remove dir name (Exact version) ∷ left)
+    (All-cons (Permits (Puts true)) (Asks (Remove dir name (Exact version))) (map Asks left) refl (file_leaves there (counts_left there (slice_index before) file) file)) r.gone
+
+freed_led : (dir : FileId) (name : RadName) (said : Option ℕ) (version : ℕ) (held : Option Shown) (before after : List ℕ) (old new : Filed) → IsFreed dir name said version held before after old new → IsLed (Puts true) old new
 freed_led dir name said version held before after old new freed =
     let r = freed.replaced in
-    let there : Bool = is_some held in
-    let left : List Request = file_left there (counts_left there (slice_index before) freed.file) freed.file in
-    let gone : IsLed (Puts true) r.known new =
-    does_led (Remove dir name (Exact version) ∷ left)
-    (All-cons (Permits (Puts true)) (Asks (Remove dir name (Exact version))) (map Asks left) refl (file_leaves there (counts_left there (slice_index before) freed.file) freed.file)) r.gone in
-    then_led (obeyed (LookUp dir name (pick_for said)) tt (_, freed.found)) (then_led (shown_led held freed.file freed.seen r.known r.shown) gone)
+    then_led (obeyed (LookUp dir name (pick_for said)) tt (_, freed.found))
+    (then_led (shown_led held freed.file freed.seen r.known r.shown) (gone_led dir name version freed.file held before after freed.seen new r))
 
 -- room is made
-pub room_led : (dir : FileId) (name : RadName) (said free held : Option ℕ) (before after : Option (List ℕ)) (old new : Filed) → IsRoomMade dir name said free held before after old new
+pub room_led : (dir : FileId) (name : RadName) (said free : Option ℕ) (held : Option Shown) (before after : Option (List ℕ)) (old new : Filed) → IsRoomMade dir name said free held before after old new
     → IsLed (Puts (is_some before)) old new
 room_led dir name said free held None after old new room = led_to new room.3 (stays old)
 room_led dir name said free held (Some before) after old new room = elim room [
@@ -73,8 +79,8 @@ room_led dir name said free held (Some before) after old new room = elim room [
   | inr one ↦ freed_led dir name said one.0 held before one.1.0 old new one.1.3
 ]
 
--- no protection is known of a file where none is replaced
-none_held : (dir : FileId) (name : RadName) (said free held : Option ℕ) (before after : Option (List ℕ)) (old new : Filed) → IsRoomMade dir name said free held before after old new → is_some before ≡ false → held ≡ None
+-- nothing is known of a file where none is replaced
+none_held : (dir : FileId) (name : RadName) (said free : Option ℕ) (held : Option Shown) (before after : Option (List ℕ)) (old new : Filed) → IsRoomMade dir name said free held before after old new → is_some before ≡ false → held ≡ None
 none_held dir name said free held None after old new room none = room.1
 none_held dir name said free held (Some before) after old new room none = absurd (let wrong : true ≡ false = none in cc)
 
@@ -89,12 +95,13 @@ version_led replaces None old dir name None version new is = elim is [
 ]
 
 -- what is put, by what each step of it leaves
-pub put_as : (p q : InPut) (name : RadName) (attributes bytes all : List ℕ) (old mid seen filed new : Filed) (free held said : Option ℕ) (left : Option (List ℕ)) (version : ℕ) (user owner : Uic) (file : FileId)
+pub put_as : (p q : InPut) (name : RadName) (attributes bytes all : List ℕ) (old mid seen filed new : Filed) (free : Option ℕ) (held : Option Shown) (said : Option ℕ) (left : Option (List ℕ)) (version : ℕ) (user owner : Uic)
+    (placing : Placing) (count : ℕ) (file : FileId)
     → IsRoomMade p.target.directory name p.target.version free held p.names left old mid → said ≡ option_or free p.target.version
-    → IsVersionFor p.highest mid p.target.directory name said version seen → user ≡ seen.user → owner ≡ unwrap_or p.owner user → bytes ≡ all
-    → IsMadeFor p.placing owner p.target.directory said (record { name = name; version = version; stamp = p.stamp }) attributes bytes file seen filed
-    → IsProtected held file filed new → AreCountedOn left file q.names → AreNotedOn p.highest name version q.highest → IsStill p q → IsPutAs p name attributes all old q new
-put_as p q name attributes bytes all old mid seen filed new free held said left version user owner file room is next asks owns same made given counted noted still =
+    → IsVersionFor p.highest mid p.target.directory name said version seen → user ≡ seen.user → owner ≡ unwrap_or p.owner user → bytes ≡ all → placing ≡ placing_kept p.placing held → count ≡ block_count bytes
+    → IsMadeFor placing owner p.target.directory said (record { name = name; version = version; stamp = p.stamp }) attributes bytes file seen filed
+    → KeepsAccess p.owner placing count held file filed new → AreCountedOn left file q.names → AreNotedOn p.highest name version q.highest → IsStill p q → IsPutAs p name attributes all old q new
+put_as p q name attributes bytes all old mid seen filed new free held said left version user owner placing count file room is next asks owns same placed counts made given counted noted still =
     let dir = p.target.directory in
     let heading : Heading = record { name = name; version = version; stamp = p.stamp } in
     let led : IsLed (Puts (is_some p.names)) old seen =
@@ -111,15 +118,16 @@ put_as p q name attributes bytes all old mid seen filed new free held said left 
       next = subst (λ s. IsVersionFor p.highest mid dir name s version seen) is next;
       file = file;
       filed = filed;
-      made = subst (λ u. IsMadeFor p.placing u dir (option_or free p.target.version) heading attributes all file seen filed) whose
-          (subst (λ s. IsMadeFor p.placing owner dir s heading attributes all file seen filed) is (subst (λ b. IsMadeFor p.placing owner dir said heading attributes b file seen filed) same made));
-      given = given;
+      made = subst (λ k. IsMadeFor k (unwrap_or p.owner old.user) dir (option_or free p.target.version) heading attributes all file seen filed) placed
+          (subst (λ u. IsMadeFor placing u dir (option_or free p.target.version) heading attributes all file seen filed) whose
+          (subst (λ s. IsMadeFor placing owner dir s heading attributes all file seen filed) is (subst (λ b. IsMadeFor placing owner dir said heading attributes b file seen filed) same made)));
+      given = subst (λ k. KeepsAccess p.owner k (block_count all) held file filed new) placed (subst (λ n. KeepsAccess p.owner placing n held file filed new) (counts ∙ ap block_count same) given);
       counted = counted;
       noted = noted;
       still = still;
     }
 
--- it is what the user's requests leave, then a file that is made for its owner, and the protection of the one that it replaces
+-- it is what the user's requests leave, then a file that is made for its owner, and what it keeps of the one that it replaces
 pub put_is : (p q : InPut) (host bytes : List ℕ) (old new : Filed) → IsHostPut p host bytes old q new → IsPut (replaces p) p.placing p.owner old new
 put_is p q host bytes old new is =
     let put = is.put in
@@ -135,24 +143,77 @@ put_is p q host bytes old new is =
       bytes = is.stored;
       file = put.file;
       filed = put.filed;
-      made = put.made;
       held = put.held;
+      made = put.made;
       alone = none_held dir is.name p.target.version put.free put.held p.names put.left old put.mid put.room;
       given = put.given;
     }
 
--- where no owner is said, and blocks may stand anywhere, all of it is asked for by the user
-own_filed : (replaces : Bool) (placing : Placing) (said : Option Uic) (old new : Filed) → (put : IsPut replaces placing said old new) → said ≡ None → placing ≡ Anywhere → IsLed (Puts replaces) old put.filed
-own_filed replaces placing said old new put none anywhere =
-    let is : unwrap_or said old.user ≡ put.mid.user = ap (λ s. unwrap_or s old.user) none ∙ sym (same_user put.before) in
-    then_led put.before (allows_more (copies_puts replaces) (own_made put.dir put.version put.heading put.attributes put.bytes put.file put.mid put.filed placing (unwrap_or said old.user) anywhere is put.made))
+-- where no owner is said, and the blocks may stand anywhere, the user's requests make it
+own_filed : (replaces : Bool) (placing : Placing) (said : Option Uic) (dir : FileId) (version : Option ℕ) (heading : Heading) (attributes bytes : List ℕ) (file : FileId) (old seen filed : Filed) → said ≡ None → placing ≡ Anywhere
+    → IsLed (Puts replaces) old seen → IsMadeFor placing (unwrap_or said old.user) dir version heading attributes bytes file seen filed → IsLed (Puts replaces) seen filed
+own_filed replaces placing said dir version heading attributes bytes file old seen filed none anywhere led made =
+    let is : unwrap_or said old.user ≡ seen.user = ap (λ s. unwrap_or s old.user) none ∙ sym (same_user led) in
+    allows_more (copies_puts replaces) (own_made dir version heading attributes bytes file seen filed placing (unwrap_or said old.user) anywhere is made)
 
--- with a protection behind it, or none
-then_given : (held : Option ℕ) (file : FileId) (old filed new : Filed) → IsLed (Puts true) old filed → IsProtected held file filed new → IsPutLed true old new
-then_given None file old filed new led given = inl (led_to new given led)
-then_given (Some protection) file old filed new led given = let leg : IsLeg (Puts true) old new = record { mid = filed; led = led; file = file; protection = protection; given = given } in inr leg
+-- blocks may stand anywhere that neither the words nor a replaced file place
+anywhere_kept : (placing : Option Placing) → placing ≢ Some InOnePiece → placing_kept placing None ≡ Anywhere
+anywhere_kept None other = refl
+anywhere_kept (Some Anywhere) other = refl
+anywhere_kept (Some InOnePiece) other = absurd (other refl)
 
-pub own_put : (replaces : Bool) (placing : Placing) (said : Option Uic) (old new : Filed) → IsPut replaces placing said old new → said ≡ None → placing ≡ Anywhere → IsPutLed replaces old new
-own_put true placing said old new put none anywhere = then_given put.held put.file old put.filed new (own_filed true placing said old new put none anywhere) put.given
-own_put false placing said old new put none anywhere =
-    led_to new (subst (λ o. IsProtected o put.file put.filed new) (put.alone refl) put.given) (own_filed false placing said old new put none anywhere)
+-- A file is made where room is made for it, and receives what it keeps.
+module _ (placing : Option Placing) (said : Option Uic) (dir : FileId) (version : Option ℕ) (heading : Heading) (attributes bytes : List ℕ) (count : ℕ) (file : FileId) (none : said ≡ None) (other : placing ≢ Some InOnePiece) where
+  -- nothing is known of a file that it replaces
+  none_kept : (replaces : Bool) (held : Option Shown) (old seen filed new : Filed) → held ≡ None → IsLed (Puts replaces) old seen
+      → IsMadeFor (placing_kept placing held) (unwrap_or said old.user) dir version heading attributes bytes file seen filed → KeepsAccess said (placing_kept placing held) count held file filed new → IsLed (Puts replaces) old new
+  none_kept replaces held old seen filed new is led made given =
+      let same : new ≡ filed = subst (λ h. KeepsAccess said (placing_kept placing h) count h file filed new) is given in
+      led_to new same
+      (then_led led (own_filed replaces (placing_kept placing held) said dir version heading attributes bytes file old seen filed none (ap (placing_kept placing) is ∙ anywhere_kept placing other) led made))
+
+  -- it replaces a file
+  freed_kept : (held : Option Shown) (to : FileId) (name : RadName) (given : Option ℕ) (found : ℕ) (before after : List ℕ) (old mid seen filed new : Filed) → (freed : IsFreed to name given found held before after old mid) → IsLed (Puts true) mid seen
+      → IsMadeFor (placing_kept placing held) (unwrap_or said old.user) dir version heading attributes bytes file seen filed → KeepsAccess said (placing_kept placing held) count held file filed new → IsPutLed true placing old new
+  freed_kept None to name given found before after old mid seen filed new freed led made kept =
+      inl (none_kept true None old seen filed new refl (then_led (freed_led to name given found None before after old mid freed) led) made kept)
+  freed_kept (Some shown) to name given found before after old mid seen filed new freed led made kept =
+      let r = freed.replaced in
+      let whole : IsLed (Puts true) old seen = then_led (freed_led to name given found (Some shown) before after old mid freed) led in
+      let leg : IsKeptLeg placing old new =
+      record {
+        seen = freed.seen;
+        before = obeyed (LookUp to name (pick_for given)) tt (_, freed.found);
+        replaced = freed.file;
+        shown = shown;
+        known = r.known;
+        info = r.shown.0;
+        filed = filed;
+        led = λ anywhere.
+            then_led (gone_led to name found freed.file (Some shown) before after freed.seen mid r)
+            (then_led led (own_filed true (placing_kept placing (Some shown)) said dir version heading attributes bytes file old seen filed none anywhere whole made));
+        file = file;
+        count = count;
+        kept = subst (λ s. KeepsAccess s (placing_kept placing (Some shown)) count (Some shown) file filed new) none kept;
+      } in
+      inr leg
+
+  -- files are replaced, or not
+  room_kept : (held : Option Shown) (to : FileId) (name : RadName) (given free : Option ℕ) (before after : Option (List ℕ)) (old mid seen filed new : Filed) → IsRoomMade to name given free held before after old mid
+      → IsLed (Puts (is_some before)) mid seen → IsMadeFor (placing_kept placing held) (unwrap_or said old.user) dir version heading attributes bytes file seen filed
+      → KeepsAccess said (placing_kept placing held) count held file filed new → IsPutLed (is_some before) placing old new
+  room_kept held to name given free None after old mid seen filed new room led made kept =
+      none_kept false held old seen filed new room.1 (then_led (room_led to name given free held None after old mid room) led) made kept
+  room_kept held to name given free (Some before) after old mid seen filed new room led made kept = elim room [
+    | inl none ↦ inl (none_kept true held old seen filed new none.2 (then_led (room_led to name given free held (Some before) after old mid (inl none)) led) made kept)
+    | inr one ↦ freed_kept held to name given one.0 before one.1.0 old mid seen filed new one.1.3 led made kept
+  ]
+
+pub own_put : (p q : InPut) (host bytes : List ℕ) (old new : Filed) → IsHostPut p host bytes old q new → p.owner ≡ None → p.placing ≢ Some InOnePiece → IsPutLed (replaces p) p.placing old new
+own_put p q host bytes old new is none other =
+    let put = is.put in
+    let dir = p.target.directory in
+    let said = option_or put.free p.target.version in
+    room_kept p.placing p.owner dir said (record { name = is.name; version = put.version; stamp = p.stamp }) is.attributes is.stored (block_count is.stored) put.file none other
+    put.held dir is.name p.target.version put.free p.names put.left old put.mid put.seen put.filed new put.room
+    (version_led (replaces p) p.highest put.mid dir is.name said put.version put.seen put.next) put.made put.given

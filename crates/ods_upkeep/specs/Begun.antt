@@ -1,5 +1,5 @@
 -- The lookups of put before the first file.
-use Rattle.std.specs.Prelude.{◌≡◌, ◌≢◌, ◌<◌, ℕ, nat_le, Bool, true, false, not, ◌&&◌, if◌then◌else◌, List, [], ◌∷◌, codes, slice_index, Option, Some, None}
+use Rattle.std.specs.Prelude.{◌≡◌, ◌≢◌, ◌<◌, ℕ, nat_le, Bool, true, false, not, ◌&&◌, if◌then◌else◌, List, [], ◌∷◌, codes, slice_index, Option, Some, None, unwrap_or}
 use Rattle.std.specs.Borrow.{Bor}
 use Rattle.std.specs.Option.{option_map}
 use Rattle.ods_base.specs.declared.file_id.FileId.{FileId}
@@ -54,11 +54,15 @@ keeps_form (form.Said four) like = false
 abbrev pub is_contiguous : Facts → Bool
 is_contiguous facts = nat_le 128 facts.user_char
 
--- Where the blocks of the new files are allocated: as specified; otherwise in one piece if the model file is contiguous.
+-- Where the blocks of the new files are allocated: as specified; otherwise in one piece if the model file is contiguous; otherwise not determined.
+abbrev pub placing_asked : Option Placing → Option Facts → Option Placing
+placing_asked (Some said) like = Some said
+placing_asked None None = None
+placing_asked None (Some facts) = if is_contiguous facts then Some InOnePiece else None
+
+-- the same, and anywhere if it is not determined
 abbrev pub placing_by : Option Placing → Option Facts → Placing
-placing_by (Some said) like = said
-placing_by None None = Anywhere
-placing_by None (Some facts) = if is_contiguous facts then InOnePiece else Anywhere
+placing_by said like = unwrap_or (placing_asked said like) Anywhere
 
 -- if files are replaced, how often entries name each file
 abbrev pub AreNames : List (List ℕ) → VolumeLayout → Bool → Option (List ℕ) → Type 0
@@ -79,7 +83,7 @@ pub record IsBegun (I : List (List ℕ)) (L : VolumeLayout) (stamp : List ℕ) (
   pub liked : IsLike I L like facts
   pub attributed : begun.like ≡ option_map (λ (f : Facts). f.attributes) facts
   pub keeping : begun.keeps ≡ keeps_form form like
-  pub placed : begun.placing ≡ placing_by placing facts
+  pub placed : begun.placing ≡ placing_asked placing facts
   pub owned : begun.owner ≡ owner
   pub named : AreNames I L replace begun.names
   pub kept : AreKept I L (several && not replace) begun.target.directory begun.highest

@@ -89,8 +89,8 @@ true_for own blocks =
     else take 4 own ++ block blocks ++ drop 8 own
 
 -- A copy with these bytes is made of a file of which this is known: the user makes it, with its blocks placed this way, and enters it under this
--- name, under the given version or the next one. Then it has received the protection of that file.
-pub record IsCopyMade (placing : Placing) (to : Target) (name : RadName) (stamp : List ℕ) (facts : Facts) (bytes : List ℕ) (old new : Filed) : Type 0 where
+-- name, under the given version or the next one. Then it has received the protection of that file, and this owner, if one is given.
+pub record IsCopyMade (placing : Placing) (to : Target) (name : RadName) (stamp : List ℕ) (owner : Option Uic) (facts : Facts) (bytes : List ℕ) (old new : Filed) : Type 0 where
   -- the version that the header of the copy gets, and the volume when it is looked up
   pub version : ℕ
   pub mid : Filed
@@ -98,7 +98,7 @@ pub record IsCopyMade (placing : Placing) (to : Target) (name : RadName) (stamp 
   pub file : FileId
   pub filed : Filed
   pub made : IsMadeFor placing old.user to.directory to.version (record { name = name; version = version; stamp = stamp }) (true_for facts.attributes facts.blocks) bytes file mid filed
-  pub given : HasGiven filed file None (Some facts.protection) new
+  pub given : HasGiven filed file owner (Some facts.protection) new
 
 -- A file is copied. Its facts are as they were found at first; its bytes are the bytes of all its blocks when its turn comes.
 pub record IsCopied (placing : Placing) (to : Target) (stamp : List ℕ) (found : Found) (old new : Filed) : Type 0 where
@@ -109,7 +109,7 @@ pub record IsCopied (placing : Placing) (to : Target) (stamp : List ℕ) (found 
   pub held : HasBody old.image old.layout facts.file.number body
   pub bytes : List ℕ
   pub all : bytes_in Raw body ≡ Some bytes
-  pub made : IsCopyMade placing to name stamp facts bytes old new
+  pub made : IsCopyMade placing to name stamp None facts bytes old new
 
 -- these files are copied, in order
 abbrev pub AreCopied : Placing → Target → List ℕ → List Found → Filed → Filed → Type 0

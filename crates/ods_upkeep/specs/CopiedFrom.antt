@@ -1,16 +1,18 @@
 -- What cp does for files of another volume: for each file that is found there a new one is created here, with the bytes of all its blocks, its
--- attributes, its protection, its date of creation, its name and its version.
-use Rattle.std.specs.Prelude.{◌≡◌, ℕ, Bool, true, not, List, [], ◌∷◌, length, Option, Some, None, if◌then◌else◌}
+-- attributes, its protection, its date of creation, its name and its version, and on request its owner.
+use Rattle.std.specs.Prelude.{◌≡◌, ℕ, Bool, true, not, ◌&&◌, List, [], ◌∷◌, length, Option, Some, None, if◌then◌else◌}
 use Rattle.std.specs.Borrow.{Bor}
 use Rattle.std.specs.List.{All, filter, list_all}
 use Rattle.std.specs.Option.{option_or}
 use Rattle.ods_base.specs.Block.{word}
 use Rattle.ods_base.specs.Name.{RadName}
+use Rattle.ods_base.specs.declared.file_id.Uic.{Uic}
 use Rattle.ods_files.specs.Body.{Body, HasBody, bytes_in}
 use Rattle.ods_files.specs.declared.form.Form.TheVariants.{Raw}
 use Rattle.ods_space.specs.Files.{FindsFiles}
 use Rattle.ods_space.specs.Layout.{VolumeLayout}
 use Rattle.ods_request.specs.Stamps.{is_stamp}
+use Rattle.ods_amend.specs.Access.{may_give}
 use Rattle.ods_filing.specs.Filed.{Filed}
 use Rattle.ods_shell.specs.Facts.{created_in}
 use Rattle.ods_shell.specs.Named.{highest}
@@ -70,6 +72,10 @@ stamp_for facts stamp = if is_stamp (created_in facts.ident) then created_in fac
 abbrev pub placing_of : CopyFrom → Facts → Placing
 placing_of how facts = placing_by how.placing (Some facts)
 
+-- the owner that a copy receives from this user: that of the file, if owners are kept and the user may give it
+abbrev pub owner_carried : Bool → Uic → Uic → Option Uic
+owner_carried keeps user owner = if keeps && may_give user owner then Some owner else None
+
 -- A file of the other volume is copied, which its reader may read. That volume has these blocks and this layout, with which the file has a whole chain.
 pub record IsCopiedOver (I : List (List ℕ)) (L : VolumeLayout) (how : CopyFrom) (to : Target) (stamp : List ℕ) (found : Found) (old new : Filed) : Type 0 where
   pub facts : Facts
@@ -79,7 +85,7 @@ pub record IsCopiedOver (I : List (List ℕ)) (L : VolumeLayout) (how : CopyFrom
   pub held : HasBody I L facts.file.number body
   pub bytes : List ℕ
   pub all : bytes_in Raw body ≡ Some bytes
-  pub made : IsCopyMade (placing_of how facts) (target_for to found facts how.next) name (stamp_for facts stamp) facts bytes old new
+  pub made : IsCopyMade (placing_of how facts) (target_for to found facts how.next) name (stamp_for facts stamp) (owner_carried how.owners old.user facts.owner) facts bytes old new
 
 -- these files are copied, in order
 abbrev pub AreCopiedOver : List (List ℕ) → VolumeLayout → CopyFrom → Target → List ℕ → List Found → Filed → Filed → Type 0
@@ -96,9 +102,9 @@ IsCopiedFrom I L how stamp paths to old new =
     (files : List Found) × ((target : Target) × AreFilesFrom I L paths files × IsTarget old.image old.layout (length files) to target
     × AreAllCopiedOver I L how target stamp files old new)
 
--- INDEXF.SYS may have grown, and requests of the kind of a cp made all the rest, with protections set in between
-abbrev pub IsLedFrom : Filed → Filed → Type 0
-IsLedFrom old new = (count : ℕ) × ((ready : Filed) × MayHaveGrown count old ready × IsLedGiving Copies ready new)
+-- INDEXF.SYS may have grown, and requests of the kind of a cp made all the rest, with protections set in between, and owners if they are kept
+abbrev pub IsLedFrom : Bool → Filed → Filed → Type 0
+IsLedFrom owners old new = (count : ℕ) × ((ready : Filed) × MayHaveGrown count old ready × IsLedGiving owners Copies ready new)
 
 -- The same of the files of some volume: only the host, which has its image, knows which one.
 abbrev pub IsCopiedFromSome : CopyFrom → List ℕ → List (Bor (List ℕ)) → List ℕ → Filed → Filed → Type 0

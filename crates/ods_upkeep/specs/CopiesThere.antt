@@ -27,9 +27,10 @@ use Rattle.ods_upkeep.specs.Target.{IsTarget}
 use Rattle.ods_upkeep.specs.declared.asked.CopyFrom.{CopyFrom}
 use Rattle.ods_upkeep.specs.declared.target.Target.{Target}
 
--- The second catalogue has everything that the first has: each file that is no directory, unchanged, and each entry of a directory.
+-- The second catalogue has everything that the first has: each file that is no directory, unchanged, each directory, and each entry of one.
 pub record HasAllOf (C D : Catalogue) : Type 0 where
   pub files : (id : FileId) (file : File) → finmap.get C.files id ≡ Some file → is_directory file.body ≡ false → finmap.get D.files id ≡ Some file
+  pub directories : (id : FileId) (file : File) → finmap.get C.files id ≡ Some file → is_directory file.body ≡ true → (now : File) × ((finmap.get D.files id ≡ Some now) × (is_directory now.body ≡ true))
   pub entries : (dir : FileId) (name : RadName) (version : ℕ) (file : FileId) → IsEntryOf C dir name version file → IsEntryOf D dir name version file
 
 -- The new blocks show a catalogue too, and each catalogue that they show has everything of each catalogue that the old blocks show.

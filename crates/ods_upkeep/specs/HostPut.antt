@@ -4,15 +4,18 @@ use Rattle.std.specs.Option.{option_or}
 use Rattle.std.specs.declared.alloc.Global.{Global}
 use Rattle.ods_base.specs.Name.{RadName, directory_type}
 use Rattle.ods_base.specs.declared.file_id.FileId.{FileId}
+use Rattle.ods_request.specs.declared.answers.Stat.{Stat as Shown}
 use Rattle.ods_filing.specs.Filed.{Filed}
+use Rattle.ods_filing.specs.Put.{block_count}
 use Rattle.ods_upkeep.specs.Before.{IsBefore}
 use Rattle.ods_upkeep.specs.Counted.{one_more}
 use Rattle.ods_upkeep.specs.HostNames.{IsNameFor}
 use Rattle.ods_upkeep.specs.Kept.{IsKept, IsNotKept}
 use Rattle.ods_upkeep.specs.Left.{InPut, replaced_version, replaces}
 use Rattle.ods_upkeep.specs.Looked.{IsNextVersion}
-use Rattle.ods_upkeep.specs.PutFor.{IsMadeFor, IsProtected}
+use Rattle.ods_upkeep.specs.PutFor.{IsMadeFor}
 use Rattle.ods_upkeep.specs.Remarks.{IsRemark}
+use Rattle.ods_upkeep.specs.Replaced.{KeepsAccess, placing_kept}
 use Rattle.ods_upkeep.specs.Rooms.{IsRoomMade}
 use Rattle.ods_upkeep.specs.Versions.{IsNoted, Noted, behind, version_in}
 use Rattle.ods_upkeep.specs.Written.{IsWritten}
@@ -47,9 +50,9 @@ pub record IsStill (p q : InPut) : Type 0 where
 
 -- A file of this name, these attributes and these bytes has been put, with the earlier facts; and these are the facts then.
 pub record IsPutAs (p : InPut) (name : RadName) (attributes bytes : List ℕ) (old : Filed) (q : InPut) (new : Filed) : Type 0 where
-  -- the version that is free then, if room is made for the file, the protection of the file that it replaces, and the volume then
+  -- the version that is free then, if room is made for the file, what is known of the file that it replaces, and the volume then
   pub free : Option ℕ
-  pub held : Option ℕ
+  pub held : Option Shown
   pub left : Option (List ℕ)
   pub mid : Filed
   pub room : IsRoomMade p.target.directory name p.target.version free held p.names left old mid
@@ -57,12 +60,12 @@ pub record IsPutAs (p : InPut) (name : RadName) (attributes bytes : List ℕ) (o
   pub version : ℕ
   pub seen : Filed
   pub next : IsVersionFor p.highest mid p.target.directory name (option_or free p.target.version) version seen
-  -- the file is made by its owner, and entered under the version that is free or given, or the next one
+  -- the file is made by its owner, in one piece if it replaces a contiguous one, and entered under the version that is free or given, or the next one
   pub file : FileId
   pub filed : Filed
-  pub made : IsMadeFor p.placing (unwrap_or p.owner old.user) p.target.directory (option_or free p.target.version) (record { name = name; version = version; stamp = p.stamp }) attributes bytes file seen filed
-  -- the user gives it the protection of the file that it replaces
-  pub given : IsProtected held file filed new
+  pub made : IsMadeFor (placing_kept p.placing held) (unwrap_or p.owner old.user) p.target.directory (option_or free p.target.version) (record { name = name; version = version; stamp = p.stamp }) attributes bytes file seen filed
+  -- the user gives it what it keeps of the file that it replaces
+  pub given : KeepsAccess p.owner (placing_kept p.placing held) (block_count bytes) held file filed new
   -- it is counted, and its version is noted
   pub counted : AreCountedOn left file q.names
   pub noted : AreNotedOn p.highest name version q.highest

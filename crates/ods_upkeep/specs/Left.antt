@@ -17,8 +17,8 @@ pub record InPut : Type 0 where
   pub like : Option (List ℕ)
   -- whether a file keeps the form of the version before it
   pub keeps : Bool
-  -- where its blocks are allocated
-  pub placing : Placing
+  -- where its blocks are allocated, if the file that it replaces does not determine it
+  pub placing : Option Placing
   -- its owner, if it differs from the requesting user
   pub owner : Option Uic
   -- how often entries name each file, if files are replaced

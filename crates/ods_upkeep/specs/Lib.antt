@@ -33,6 +33,7 @@ pub mod HostPut
 pub mod Unput
 pub mod Remarks
 pub mod Rooms
+pub mod Replaced
 pub mod Versions
 pub mod Written
 pub mod Kept

@@ -2,10 +2,10 @@
 use Rattle.std.specs.Prelude.{◌≡◌, ◌≢◌, ◌⊎◌, ℕ, ◌<◌, ◌≤◌, ◌↔◌, Bool, false, if◌then◌else◌, nat_le, List, ◌++◌, take, drop, Option, Some, None, unwrap_or}
 use Rattle.ods_base.specs.declared.file_id.FileId.{FileId}
 use Rattle.ods_base.specs.declared.file_id.Uic.{Uic}
+use Rattle.ods_request.specs.declared.answers.Stat.{Stat as Shown}
 use Rattle.ods_request.specs.declared.requests.Request.TheVariants.{Enter}
 use Rattle.ods_request.specs.Catalogue.{Plain}
 use Rattle.ods_request.specs.declared.refusals.Refusal.{Refusal}
-use Rattle.ods_filing.specs.Amended.{HasGiven, IsWhyNotGiven}
 use Rattle.ods_filing.specs.Contiguous.{IsAddedInOnePiece, IsNotInOnePiece}
 use Rattle.ods_filing.specs.Filed.{Filed, for_another}
 use Rattle.ods_filing.specs.Led.{IsLed, IsObeyed, Fills}
@@ -22,6 +22,7 @@ use Rattle.ods_shell.specs.Space.{HasFreeRun}
 use Rattle.ods_space.specs.Chain.{header_blocks}
 use Rattle.ods_space.specs.Layout.{VolumeLayout}
 use Rattle.ods_upkeep.specs.Kinds.{Puts}
+use Rattle.ods_upkeep.specs.Replaced.{KeepsAccess, placing_kept}
 use Rattle.ods_upkeep.specs.declared.asked.Placing.{Placing}
 use Rattle.ods_upkeep.specs.declared.asked.Placing.TheVariants.{Anywhere, InOnePiece}
 use Rattle.ods_upkeep.specs.declared.failure.Why.{Why}
@@ -84,19 +85,9 @@ pub record IsMadeFor (placing : Placing) (owner : Uic) (dir : FileId) (version :
   pub stored : IsStored placing heading attributes bytes file (for_another old owner) made
   pub entered : IsObeyed (for_another made old.user) (Enter dir heading.name version file) new
 
--- the user has given a file this protection, if there is one, and nothing else was done
-abbrev pub IsProtected : Option ℕ → FileId → Filed → Filed → Type 0
-IsProtected None file old new = new ≡ old
-IsProtected (Some protection) file old new = HasGiven old file None (Some protection) new
-
--- why the user does not give it
-abbrev pub IsUnprotected : Option ℕ → FileId → Filed → Why → Type 0
-IsUnprotected None file old why = ⊥
-IsUnprotected (Some protection) file old why = (reason : Refusal) × (why ≡ Request reason) × IsWhyNotGiven old file reason
-
 -- What putting a file leaves: requests of the user, then a file that is made for the given owner, or else for the user. If files are replaced, the user
--- may have given it a protection then. Nothing more was done.
-pub record IsPut (replaces : Bool) (placing : Placing) (said : Option Uic) (old new : Filed) : Type 0 where
+-- may have given it then what it keeps of another file. Nothing more was done.
+pub record IsPut (replaces : Bool) (placing : Option Placing) (said : Option Uic) (old new : Filed) : Type 0 where
   pub mid : Filed
   pub before : IsLed (Puts replaces) old mid
   pub dir : FileId
@@ -106,7 +97,7 @@ pub record IsPut (replaces : Bool) (placing : Placing) (said : Option Uic) (old 
   pub bytes : List ℕ
   pub file : FileId
   pub filed : Filed
-  pub made : IsMadeFor placing (unwrap_or said old.user) dir version heading attributes bytes file mid filed
-  pub held : Option ℕ
+  pub held : Option Shown
+  pub made : IsMadeFor (placing_kept placing held) (unwrap_or said old.user) dir version heading attributes bytes file mid filed
   pub alone : replaces ≡ false → held ≡ None
-  pub given : IsProtected held file filed new
+  pub given : KeepsAccess said (placing_kept placing held) (block_count bytes) held file filed new

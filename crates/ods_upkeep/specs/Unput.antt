@@ -6,16 +6,18 @@ use Rattle.ods_base.specs.declared.file_id.FileId.{FileId}
 use Rattle.ods_base.specs.declared.name.Pick.TheVariants.{Exact}
 use Rattle.ods_paths.specs.Patterns.{capitals}
 use Rattle.ods_records.specs.declared.near.NearText.{NearText}
+use Rattle.ods_request.specs.declared.answers.Stat.{Stat as Shown}
 use Rattle.ods_request.specs.declared.requests.Request.TheVariants.{Remove}
 use Rattle.ods_filing.specs.Filed.{Filed}
-use Rattle.ods_filing.specs.Put.{Heading}
+use Rattle.ods_filing.specs.Put.{Heading, block_count}
 use Rattle.ods_upkeep.specs.HostNames.{IsNameFor, IsNoName, IsTyped, IsUntyped, title_of, type_of}
 use Rattle.ods_upkeep.specs.HostPut.{IsFormOf, IsFormerOf, IsVersionFor}
 use Rattle.ods_upkeep.specs.Left.{InPut}
 use Rattle.ods_upkeep.specs.Looked.{IsSeen}
-use Rattle.ods_upkeep.specs.PutFor.{IsMadeFor, IsProtected, IsUnprotected}
+use Rattle.ods_upkeep.specs.PutFor.{IsMadeFor}
 use Rattle.ods_upkeep.specs.Refused.{StopsAt, no_memory}
 use Rattle.ods_upkeep.specs.Remarks.{AreSeen, IsRemarkOn, changed_from}
+use Rattle.ods_upkeep.specs.Replaced.{KeepsAccess, KeepsNoAccess, placing_kept}
 use Rattle.ods_upkeep.specs.Rooms.{IsNotPlain, IsRoomMade, IsThere, counts_left, file_left, pick_for}
 use Rattle.ods_upkeep.specs.Target.{IsNoName as SpellsNone}
 use Rattle.ods_upkeep.specs.Unfiled.{IsUnfiled}
@@ -41,7 +43,7 @@ IsNameless None host why = IsNoHostName host why
 abbrev pub IsNotReplaced : FileId → RadName → ℕ → FileId → List ℕ → Filed → Filed → Why → Type 0
 IsNotReplaced dir name version file before old new why =
     IsNotPlain old file new why
-    ⊎ ((held : Option ℕ) × ((known : Filed) × IsThere old file held known
+    ⊎ ((held : Option Shown) × ((known : Filed) × IsThere old file held known
     × StopsAt known (Remove dir name (Exact version) ∷ file_left (is_some held) (counts_left (is_some held) (slice_index before) file) file) new why))
 
 -- why no room is made for a name if files are replaced: an entry has it, and is not removed
@@ -50,9 +52,9 @@ IsNoRoom dir name said None old new why = ⊥
 IsNoRoom dir name said (Some before) old new why =
     (file : FileId) × ((version : ℕ) × ((seen : Filed) × IsSeen old dir name (pick_for said) file version seen × IsNotReplaced dir name version file before seen new why))
 
--- The new file can be made. There is room for it, and the file that it replaces, if there is one, has this protection. The version under which it is
+-- The new file can be made. There is room for it, and this is known of the file that it replaces, if there is one. The version under which it is
 -- entered is the one that is free or given, if there is one, and the version of its ident is known.
-pub record IsReady (p : InPut) (name : RadName) (old : Filed) (under held : Option ℕ) (version : ℕ) (new : Filed) : Type 0 where
+pub record IsReady (p : InPut) (name : RadName) (old : Filed) (under : Option ℕ) (held : Option Shown) (version : ℕ) (new : Filed) : Type 0 where
   pub free : Option ℕ
   pub left : Option (List ℕ)
   pub mid : Filed
@@ -64,18 +66,18 @@ pub record IsReady (p : InPut) (name : RadName) (old : Filed) (under held : Opti
 abbrev pub heading_in : InPut → RadName → ℕ → Heading
 heading_in p name version = record { name = name; version = version; stamp = p.stamp }
 
--- Why the written bytes are not put under a name. There is no room; or the file is not made or not entered. Or it is, and the user may not give it the
--- protection of the file that it replaces. Or all of this is done, and there is no memory to record its version.
+-- Why the written bytes are not put under a name. There is no room; or the file is not made or not entered. Or it is, and the user may not give it
+-- what it keeps of the file that it replaces. Or all of this is done, and there is no memory to record its version.
 pub data IsNotStored (p : InPut) (name : RadName) (attributes bytes : List ℕ) (old new : Filed) : Why → Type 0 where
   no_room : (why : Why) → IsNoRoom p.target.directory name p.target.version p.names old new why → IsNotStored p name attributes bytes old new why
-  unfiled : (why : Why) (under held : Option ℕ) (version : ℕ) (mid : Filed) → IsReady p name old under held version mid
-      → IsUnfiled p.placing (unwrap_or p.owner old.user) p.target.directory under (heading_in p name version) attributes bytes mid new why → IsNotStored p name attributes bytes old new why
-  unprotected : (why : Why) (under held : Option ℕ) (version : ℕ) (mid : Filed) (file : FileId) → IsReady p name old under held version mid
-      → IsMadeFor p.placing (unwrap_or p.owner old.user) p.target.directory under (heading_in p name version) attributes bytes file mid new → IsUnprotected held file new why
-      → IsNotStored p name attributes bytes old new why
-  unnoted : (under held : Option ℕ) (version : ℕ) (mid : Filed) (file : FileId) (filed : Filed) → IsReady p name old under held version mid
-      → IsMadeFor p.placing (unwrap_or p.owner old.user) p.target.directory under (heading_in p name version) attributes bytes file mid filed → IsProtected held file filed new
-      → is_some p.highest ≡ true → IsNotStored p name attributes bytes old new no_memory
+  unfiled : (why : Why) (under : Option ℕ) (held : Option Shown) (version : ℕ) (mid : Filed) → IsReady p name old under held version mid
+      → IsUnfiled (placing_kept p.placing held) (unwrap_or p.owner old.user) p.target.directory under (heading_in p name version) attributes bytes mid new why → IsNotStored p name attributes bytes old new why
+  unkept : (why : Why) (under : Option ℕ) (held : Option Shown) (version : ℕ) (mid : Filed) (file : FileId) (filed : Filed) → IsReady p name old under held version mid
+      → IsMadeFor (placing_kept p.placing held) (unwrap_or p.owner old.user) p.target.directory under (heading_in p name version) attributes bytes file mid filed
+      → KeepsNoAccess (placing_kept p.placing held) (block_count bytes) held file filed new why → IsNotStored p name attributes bytes old new why
+  unnoted : (under : Option ℕ) (held : Option Shown) (version : ℕ) (mid : Filed) (file : FileId) (filed : Filed) → IsReady p name old under held version mid
+      → IsMadeFor (placing_kept p.placing held) (unwrap_or p.owner old.user) p.target.directory under (heading_in p name version) attributes bytes file mid filed
+      → KeepsAccess p.owner (placing_kept p.placing held) (block_count bytes) held file filed new → is_some p.highest ≡ true → IsNotStored p name attributes bytes old new no_memory
 
 -- the host file has a name on the volume, which is not of the type DIR
 pub record MayBeCalled (p : InPut) (host : List ℕ) (name : RadName) : Type 0 where

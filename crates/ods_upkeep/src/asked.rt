@@ -48,4 +48,6 @@ pub struct CopyFrom {
     pub placing: Option<Placing>,
     /// Whether each copy gets the next version of its name, instead of the version of the file.
     pub next: bool,
+    /// Whether each copy keeps the owner of its file, if the user of the requests may give it. Otherwise that user owns the copies.
+    pub owners: bool,
 }

@@ -1,5 +1,5 @@
 //! `cp`: creates files with the blocks, the attributes and the protection of others.
-ghost use Rattle.std.specs.Prelude.{◌≡◌, IfErr, IfOk, OnOk, Some};
+ghost use Rattle.std.specs.Prelude.{◌≡◌, Bool, false, IfErr, IfOk, None, OnOk, Some};
 ghost use Rattle.ods_base.specs.Name.{RadName, Spells};
 ghost use Rattle.ods_base.specs.declared.name.Pick.{Pick};
 ghost use Rattle.ods_files.specs.Body.{Body, HasBody, bytes_in};
@@ -42,7 +42,7 @@ pub fn copy_files(
 ) -> Result<(), Failure>
     // Where they may stand anywhere, it is what LookUp, Create, Extend, Write, SetUser and Enter leave, with protections set in between, behind a
     // growth of INDEXF.SYS.
-    ensures led { placing ≡ Anywhere → OnOk result (IsLedFrom filing.old filing.new) }
+    ensures led { placing ≡ Anywhere → OnOk result (IsLedFrom false filing.old filing.new) }
     // Done, each file that is meant is copied to the target. Nothing else was done, but that INDEXF.SYS may have grown for them.
     ensures done { OnOk result (IsCopiedTo placing stamp paths.now to.now filing.old filing.new) }
     // Refused, it is so for a reason that holds, and of the path that the failure says.
@@ -88,7 +88,7 @@ fn copy_all(
     target: &Target,
     stamp: Stamp,
 ) -> Result<(), Failure>
-    ensures led { placing ≡ Anywhere → OnOk result (IsLedGiving Copies filing.old filing.new) }
+    ensures led { placing ≡ Anywhere → OnOk result (IsLedGiving false Copies filing.old filing.new) }
     ensures done { OnOk result (AreCopied placing target.now stamp all.now filing.old filing.new) }
     ensures refused { IfErr result (StopsCopying placing target.now stamp all.now filing.old filing.new) }
 {
@@ -184,17 +184,20 @@ fn copy(
     target: &Target,
     stamp: Stamp,
 ) -> Result<(), Why>
-    ensures led { placing ≡ Anywhere → OnOk result (IsLedGiving Copies filing.old filing.new) }
+    ensures led { placing ≡ Anywhere → OnOk result (IsLedGiving false Copies filing.old filing.new) }
     ensures done { OnOk result (IsCopied placing target.now stamp found.now filing.old filing.new) }
     ensures refused { IfErr result (IsNotCopied placing target.now stamp found.now filing.old filing.new) }
 {
     let user = filing.user();
     let (facts, name) = check(found, target, Some(user))?;
     let bytes = all_bytes(alloc, filing, facts.file)?;
-    make_copy(alloc, filing, placing, target, name, stamp, &facts, &bytes)
+    make_copy(
+        alloc, filing, placing, target, name, stamp, None, &facts, &bytes,
+    )
 }
 
-/// Makes a copy of a file with these facts and bytes, enters it in the directory of the target under this name, and gives it the protection.
+/// Makes a copy of a file with these facts and bytes, and enters it in the directory of the target under this name. The copy receives the protection
+/// of the facts, and this owner, if there is one.
 pub(crate) fn make_copy(
     alloc: Global,
     filing: &mut Filing,
@@ -202,11 +205,12 @@ pub(crate) fn make_copy(
     target: &Target,
     name: Name,
     stamp: Stamp,
+    owner: Option<Uic>,
     facts: &Facts,
     bytes: &[u8],
 ) -> Result<(), Why>
-    ensures led { placing ≡ Anywhere → OnOk result (IsLedGiving Copies filing.old filing.new) }
-    ensures done { OnOk result (IsCopyMade placing target.now name stamp facts.now bytes.now filing.old filing.new) }
+    ensures led { (owners : Bool) → (owners ≡ false → owner ≡ None) → placing ≡ Anywhere → OnOk result (IsLedGiving owners Copies filing.old filing.new) }
+    ensures done { OnOk result (IsCopyMade placing target.now name stamp owner facts.now bytes.now filing.old filing.new) }
     ensures refused { IfErr result (IsCopyUnmade placing target.now name stamp facts.now bytes.now filing.old filing.new) }
 {
     let user = filing.user();
@@ -228,7 +232,7 @@ pub(crate) fn make_copy(
         target.version,
         &file,
     )?;
-    match filing.set_access(copy, None, Some(facts.protection)) {
+    match filing.set_access(copy, owner, Some(facts.protection)) {
         Ok(()) => Ok(()),
         Err(refusal) => Err(Why::Request(refusal)),
     }

@@ -5,7 +5,7 @@ ghost use Rattle.ods_space.specs.Files.{FindsFiles};
 ghost use Rattle.ods_space.specs.Disks.{on};
 ghost use Rattle.ods_upkeep.specs.Kinds.{Copies};
 ghost use Rattle.ods_upkeep.specs.Legs.{IsLedGiving};
-ghost use Rattle.ods_upkeep.specs.CopiedFrom.{AreAllCopiedOver, AreCopiedOver, AreFilesFrom, FindsNoTwins, IsCopiedFrom, IsCopiedOver, IsLedFrom, are_passed_over, copied_of, own_version, stamp_for as date_of, target_for as place_of, version_for};
+ghost use Rattle.ods_upkeep.specs.CopiedFrom.{AreAllCopiedOver, AreCopiedOver, AreFilesFrom, FindsNoTwins, IsCopiedFrom, IsCopiedOver, IsLedFrom, are_passed_over, copied_of, own_version, owner_carried as carried_owner, stamp_for as date_of, target_for as place_of, version_for};
 ghost use Rattle.ods_upkeep.specs.UncopiedFrom.{AreAllPassed, AreNoFilesFrom, AreNotCopiedOver, HasTwinned, IsNotCopiedFrom, IsNotCopiedOver, IsTwinned, StopsCopyingOver, passed_why};
 ghost use Rattle.ods_upkeep.specs.declared.asked.Placing.TheVariants.{Anywhere};
 
@@ -17,6 +17,8 @@ use crate::readying::make_ready;
 use crate::sources::sources_on;
 use crate::target::Target;
 use crate::targets::target_of;
+use ods_amend::may_give;
+use ods_base::Uic;
 use ods_filing::Filing;
 use ods_request::{Refusal, Stamp};
 use ods_shell::{Alone, Facts, Found, Kind, Unsaid, find_path, have_twins};
@@ -24,7 +26,7 @@ use ods_space::Disk;
 use std::alloc::Global;
 
 /// Copies files of another volume to a directory of this one, or one file to a name there. A copy has all their blocks, their attributes, their
-/// protection and their dates of creation. `stamp` replaces a date that is not valid. Directories and the other volume's own files are passed over,
+/// protection and their dates of creation, and on request their owners. `stamp` replaces a date that is not valid. Directories and the other volume's own files are passed over,
 /// and refused if nothing else is found. A path that finds two entries of one directory with one name and version is refused. Rights on the other volume
 /// are checked only of the reader, if there is one.
 pub fn copy_from(
@@ -37,9 +39,9 @@ pub fn copy_from(
     to: &str,
 ) -> Result<(), Failure>
     requires { on FindsFiles other.now }
-    // Where the blocks may stand anywhere, it is what LookUp, Create, Extend, Write, SetUser and Enter leave, with protections set in between, behind
-    // a growth of INDEXF.SYS.
-    ensures led { how.placing ≡ Some Anywhere → OnOk result (IsLedFrom filing.old filing.new) }
+    // Where the blocks may stand anywhere, it is what LookUp, Create, Extend, Write, SetUser and Enter leave, with protections set in between, and
+    // owners if they are kept, behind a growth of INDEXF.SYS.
+    ensures led { how.placing ≡ Some Anywhere → OnOk result (IsLedFrom how.owners filing.old filing.new) }
     // Done, each file that is found on the other volume is copied to the target. Nothing else was done, but that INDEXF.SYS may have grown for them.
     ensures done { OnOk result (on IsCopiedFrom other.now how stamp paths.now to.now filing.old filing.new) }
     // Refused, it is so for a reason that holds, and of the path that the failure says.
@@ -61,7 +63,7 @@ pub(crate) fn copy_each(
     stamp: Stamp,
 ) -> Result<(), Failure>
     requires { on FindsFiles other.now }
-    ensures led { how.now.placing ≡ Some Anywhere → OnOk result (IsLedFrom filing.old filing.new) }
+    ensures led { how.now.placing ≡ Some Anywhere → OnOk result (IsLedFrom how.now.owners filing.old filing.new) }
     ensures done { OnOk result (on AreAllCopiedOver other.now how.now target.now stamp files.now filing.old filing.new) }
     ensures refused { IfErr result (on AreNotCopiedOver other.now how.now target.now stamp files.now filing.old filing.new) }
 {
@@ -164,7 +166,7 @@ fn copy_all_over(
     stamp: Stamp,
 ) -> Result<(), Failure>
     requires { on FindsFiles other.now }
-    ensures led { how.now.placing ≡ Some Anywhere → OnOk result (IsLedGiving Copies filing.old filing.new) }
+    ensures led { how.now.placing ≡ Some Anywhere → OnOk result (IsLedGiving how.now.owners Copies filing.old filing.new) }
     ensures done { OnOk result (on AreCopiedOver other.now how.now target.now stamp all.now filing.old filing.new) }
     ensures refused { IfErr result (on StopsCopyingOver other.now how.now target.now stamp all.now filing.old filing.new) }
 {
@@ -187,7 +189,7 @@ fn copy_over(
     stamp: Stamp,
 ) -> Result<(), Why>
     requires { on FindsFiles other.now }
-    ensures led { how.now.placing ≡ Some Anywhere → OnOk result (IsLedGiving Copies filing.old filing.new) }
+    ensures led { how.now.placing ≡ Some Anywhere → OnOk result (IsLedGiving how.now.owners Copies filing.old filing.new) }
     ensures done { OnOk result (on IsCopiedOver other.now how.now target.now stamp found.now filing.old filing.new) }
     ensures refused { IfErr result (on IsNotCopiedOver other.now how.now target.now stamp found.now filing.old filing.new) }
 {
@@ -196,7 +198,21 @@ fn copy_over(
     let place = target_for(target, found, &facts, how.next);
     let placing = placing_like(how.placing, &facts);
     let date = stamp_for(&facts, stamp);
-    make_copy(alloc, filing, placing, &place, name, date, &facts, &bytes)
+    let owner = owner_carried(how.owners, filing.user(), facts.owner);
+    make_copy(
+        alloc, filing, placing, &place, name, date, owner, &facts, &bytes,
+    )
+}
+
+/// The owner that a copy receives: that of its file, if owners are kept and the user may give it.
+pub(crate) fn owner_carried(keeps: bool, user: Uic, owner: Uic) -> Option<Uic>
+    ensures { result ≡ carried_owner keeps user owner }
+{
+    if keeps && may_give(&user, &owner) {
+        Some(owner)
+    } else {
+        None
+    }
 }
 
 /// Where the copy of a file goes.
@@ -232,7 +248,7 @@ fn version_of(found: &Found, facts: &Facts) -> u16
 }
 
 /// The stamp of the copy of a file: its date of creation, where that is one; else this.
-fn stamp_for(facts: &Facts, stamp: Stamp) -> Stamp
+pub(crate) fn stamp_for(facts: &Facts, stamp: Stamp) -> Stamp
     ensures { result ≡ date_of facts.now stamp }
 {
     match Stamp::parse(&facts.creation_date()) {

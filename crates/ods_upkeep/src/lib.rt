@@ -32,6 +32,7 @@ mod putting;
 mod putting_tree;
 mod readying;
 mod removing;
+mod replaced;
 mod rooms;
 mod sources;
 mod target;

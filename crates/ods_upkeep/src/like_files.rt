@@ -2,7 +2,7 @@
 ghost use Rattle.std.specs.Prelude.{◌≡◌, MatchResult, Some};
 ghost use Rattle.std.specs.Option.{option_map};
 ghost use Rattle.ods_shell.specs.declared.facts.Facts.{Facts};
-ghost use Rattle.ods_upkeep.specs.Begun.{IsLike, IsLikeable, is_contiguous, placing_by as placing_for};
+ghost use Rattle.ods_upkeep.specs.Begun.{IsLike, IsLikeable, is_contiguous, placing_asked as asked_placing, placing_by as placing_for};
 ghost use Rattle.ods_upkeep.specs.Unbegun.{IsNotLike, SaysNoPattern};
 
 use crate::asked::Placing;
@@ -68,16 +68,17 @@ fn is_contiguous(facts: &Facts) -> bool
     facts.user_char >= CONTIGUOUS
 }
 
-/// Returns where the blocks of new files are allocated: as `said`, otherwise in one piece if the model file is contiguous.
-pub(crate) fn placing_by(said: Option<Placing>, like: &Option<Facts>) -> Placing
-    ensures { result ≡ placing_for said like.now }
+/// Returns where the blocks of new files are allocated: as `said`, otherwise in one piece if the model file is contiguous. Without a value, the file
+/// that each of them replaces determines it.
+pub(crate) fn placing_asked(said: Option<Placing>, like: &Option<Facts>) -> Option<Placing>
+    ensures { result ≡ asked_placing said like.now }
 {
-    if let Some(placing) = said {
-        return placing;
+    if said.is_some() {
+        return said;
     }
     match like {
-        Some(facts) if is_contiguous(facts) => Placing::InOnePiece,
-        _ => Placing::Anywhere,
+        Some(facts) if is_contiguous(facts) => Some(Placing::InOnePiece),
+        _ => None,
     }
 }
 
@@ -86,5 +87,5 @@ pub(crate) fn placing_like(said: Option<Placing>, facts: &Facts) -> Placing
     ensures { result ≡ placing_for said (Some facts.now) }
 {
     let like = Some(*facts);
-    placing_by(said, &like)
+    placing_asked(said, &like).unwrap_or(Placing::Anywhere)
 }

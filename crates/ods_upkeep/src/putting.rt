@@ -1,10 +1,10 @@
 //! `put`: puts files of the host one by one.
-ghost use Rattle.std.specs.Prelude.{◌≡◌, is_some, not, ◌&&◌, false, true, None, IfErr, IfOk, MatchResult, OnErr, OnOk};
+ghost use Rattle.std.specs.Prelude.{◌≡◌, ◌≢◌, is_some, not, ◌&&◌, false, true, None, Some, IfErr, IfOk, MatchResult, OnErr, OnOk};
 ghost use Rattle.std.specs.String.{string_bytes};
 ghost use Rattle.ods_upkeep.specs.{Begun.AreKept, Begun.AreNames, Begun.IsBegun, Begun.count_of, Begun.keeps_form, Begun.path_to};
 ghost use Rattle.ods_upkeep.specs.{HostPut.AreCountedOn, HostPut.AreNotedOn, HostPut.IsFormFor, HostPut.IsFormerFor, HostPut.IsHostPut, HostPut.IsPutAs, HostPut.IsRemarkFor, HostPut.IsStill, HostPut.IsVersionFor};
-ghost use Rattle.ods_upkeep.specs.declared.asked.Placing.TheVariants.{Anywhere};
-ghost use Rattle.ods_upkeep.specs.{Left.at_time, Left.replaced_version, Left.replaces, Legs.IsPutLed, PutFor.IsProtected, PutFor.IsPut, PutFor.IsUnprotected, Ready.MayHaveGrown, Refused.HasPath, Refused.IsOutOfMemory, Refused.no_memory, Remarks.BeginsChanged, Remarks.IsRemarkOn, Remarks.changed_from as changed_from_it, Remarks.is_same_form as same_form};
+ghost use Rattle.ods_upkeep.specs.declared.asked.Placing.TheVariants.{InOnePiece};
+ghost use Rattle.ods_upkeep.specs.{Left.at_time, Left.replaced_version, Left.replaces, Legs.IsPutLed, PutFor.IsPut, Ready.MayHaveGrown, Refused.HasPath, Refused.IsOutOfMemory, Refused.no_memory, Remarks.BeginsChanged, Remarks.IsRemarkOn, Remarks.changed_from as changed_from_it, Remarks.is_same_form as same_form};
 ghost use Rattle.ods_upkeep.specs.{Unbegun.IsNotBegun, Unput.IsNotPut, Unput.IsNotStored, Written.bytes_of};
 
 use crate::asking::put_new;
@@ -12,10 +12,11 @@ use crate::attributes::are_zeros;
 use crate::failure::{Failure, Why, of_path};
 use crate::host_names::name_for;
 use crate::keeping::{attributes_before, kept_form};
-use crate::like_files::{attributes_in, like_facts, placing_by};
+use crate::like_files::{attributes_in, like_facts, placing_asked};
 use crate::looking::next_version;
 use crate::names::Names;
 use crate::readying::make_ready;
+use crate::replaced::{keep_access, placing_kept};
 use crate::rooms::make_room;
 use crate::target::Target;
 use crate::targets::target_of;
@@ -23,7 +24,7 @@ use crate::versions::Highest;
 use crate::written::{Written, write_host};
 use crate::{HostFile, Placing, PutForm};
 use ods_base::{DIRECTORY_TYPE, FileId, Name, Uic};
-use ods_filing::{Filing, NewFile};
+use ods_filing::{Filing, NewFile, blocks_for};
 use ods_mount::Mounted;
 use ods_records::{NearText, print_form};
 use ods_request::Stamp;
@@ -39,7 +40,8 @@ pub struct Putting {
     like: Option<[u8; 32]>,
     /// Whether a file keeps the form of the version before it.
     keeps: bool,
-    placing: Placing,
+    /// Where the blocks of a file are allocated. Without a value, they are in one piece if the file that it replaces is contiguous.
+    placing: Option<Placing>,
     /// The owner of the new files, if it differs from the requesting user.
     owner: Option<Uic>,
     /// How many entries name each file, if files are replaced.
@@ -60,7 +62,8 @@ impl Putting {
     /// Looks up the target: an existing directory, or a name; without a target the master directory. With `like` the records of the new files are
     /// written like the records of that file. As bytes, they get all its attributes except the end of file. `placing` determines the location of the
     /// blocks; without it, they are in one piece if that file is contiguous. With `replace`, a file with the name, and with the given version or else
-    /// the highest, makes room for the new one. With `owner` that user owns and makes the new files; the requesting user enters them.
+    /// the highest, makes room for the new one, which keeps its protection, its characteristics, and its owner if the user may give it. With `owner`
+    /// that user owns and makes the new files; the requesting user enters them.
     /// With `ByContents` and without `like`, a file keeps the form of the version before it, if `get` then gives the bytes of the host file.
     pub fn begin(
         alloc: Global,
@@ -88,7 +91,7 @@ impl Putting {
             form,
             like: attributes_in(&facts),
             keeps: keeps_form(form, like),
-            placing: placing_by(placing, &facts),
+            placing: placing_asked(placing, &facts),
             owner,
             names,
             highest,
@@ -99,7 +102,7 @@ impl Putting {
     pub fn make_ready(&self, filing: &mut Filing, files: usize)
         ensures { MayHaveGrown files filing.old filing.new }
     {
-        make_ready(filing, files, self.placing);
+        make_ready(filing, files, self.placing.unwrap_or(Placing::Anywhere));
     }
 
     /// Sets the date and time of creation of the files that are put from now on.
@@ -118,10 +121,10 @@ impl Putting {
     ) -> Result<Option<String>, Failure>
         // It has the name, the attributes and the bytes that the host file gives, and what is known is what is there then.
         ensures done { OnOk result (IsHostPut self.old host.now.name.now host.now.bytes.now filing.old self.new filing.new) }
-        // Its owner makes the file, and the user enters it. Where files are replaced, he makes room before that, and gives it a protection then.
+        // Its owner makes the file, and the user enters it. Where files are replaced, he makes room before that, and gives it then what it keeps.
         ensures volume { OnOk result (IsPut (replaces self.old) self.old.placing self.old.owner filing.old filing.new) }
-        // Where no owner is said, and blocks may stand anywhere, it is what LookUp, Create, Extend, Write, SetUser and Enter leave, and where files are replaced, Stat, Remove and Delete besides, and a protection that is set then.
-        ensures own { self.old.owner ≡ None → self.old.placing ≡ Anywhere → OnOk result (IsPutLed (replaces self.old) filing.old filing.new) }
+        // Where no owner is said, and blocks may stand anywhere, it is what LookUp, Create, Extend, Write, SetUser and Enter leave, and where files are replaced, Stat, Remove and Delete besides. Then the characteristics, the protection and the owner of the replaced file are set, the owner if the user may.
+        ensures own { self.old.owner ≡ None → self.old.placing ≢ Some InOnePiece → OnOk result (IsPutLed (replaces self.old) self.old.placing filing.old filing.new) }
         ensures still { IsStill self.old self.new }
         ensures remark { IfOk result (IsRemarkFor self.old host.now.name.now host.now.bytes.now filing.old) }
         // Refused, it is so for a reason that holds, of the host file, and what was done for that is said.
@@ -141,7 +144,7 @@ impl Putting {
         placing: Placing,
         whose: Option<Uic>,
     ) -> Putting
-        ensures { result ≡ record { target = target; stamp = stamp; form = form; like = None; keeps = false; placing = placing; owner = whose; names = None; highest = None } }
+        ensures { result ≡ record { target = target; stamp = stamp; form = form; like = None; keeps = false; placing = Some placing; owner = whose; names = None; highest = None } }
     {
         Putting {
             target,
@@ -149,7 +152,7 @@ impl Putting {
             form,
             like: None,
             keeps: false,
-            placing,
+            placing: Some(placing),
             owner: whose,
             names: None,
             highest: None,
@@ -215,8 +218,10 @@ impl Putting {
             bytes: written.bytes(),
         };
         let owner = self.owner.unwrap_or(filing.user());
-        let id = put_new(alloc, filing, self.placing, owner, dir, said, &file)?;
-        keep_protection(filing, id, held)?;
+        let placing = placing_kept(self.placing, &held);
+        let blocks = blocks_for(file.bytes);
+        let id = put_new(alloc, filing, placing, owner, dir, said, &file)?;
+        keep_access(filing, id, self.owner, placing, blocks, &held)?;
         count_name(&mut self.names, id);
         note_version(&mut self.highest, &name, version)
     }
@@ -338,21 +343,6 @@ fn version_of(
             Some(highest) => highest.next(&name),
             None => next_version(filing, dir, name, None),
         },
-    }
-}
-
-/// Gives a file the protection of the file that it replaces, if there is one.
-fn keep_protection(filing: &mut Filing, file: FileId, held: Option<u16>) -> Result<(), Why>
-    ensures given { OnOk result (IsProtected held file filing.old filing.new) }
-    ensures refused { IfErr result (IsUnprotected held file filing.old) }
-    ensures unchanged { OnErr result (filing.new ≡ filing.old) }
-{
-    let Some(protection) = held else {
-        return Ok(());
-    };
-    match filing.set_access(file, None, Some(protection)) {
-        Ok(()) => Ok(()),
-        Err(refusal) => Err(Why::Request(refusal)),
     }
 }
 

@@ -9,17 +9,17 @@ use crate::looking::look_up;
 use crate::names::Names;
 use ods_base::{FileId, Name, Pick};
 use ods_filing::Filing;
-use ods_request::{Answer, Kind, Refusal, Request};
+use ods_request::{Answer, Kind, Refusal, Request, Stat};
 
 /// If files are replaced and an entry has the name: removes it, and deletes its file if no other entry names it. Returns the version that is free
-/// then, and the protection of the file, if it exists.
+/// then, and what a Stat shows of the file, if it exists.
 pub(crate) fn make_room(
     filing: &mut Filing,
     dir: FileId,
     name: Name,
     version: Option<u16>,
     names: &mut Option<Names>,
-) -> Result<(Option<u16>, Option<u16>), Why>
+) -> Result<(Option<u16>, Option<Stat>), Why>
     ensures room { IfOk result (λ made. IsRoomMade dir name version made.0 made.1 names.old names.new filing.old filing.new) }
     ensures replaces { is_some names.new ≡ is_some names.old }
     ensures err { IfErr result (IsNoRoom dir name version names.old filing.old filing.new) }
@@ -44,7 +44,7 @@ fn pick_for(version: Option<u16>) -> Pick
     }
 }
 
-/// This entry goes, and its file where no other entry names it. Returns the protection of the file, if it exists.
+/// This entry goes, and its file where no other entry names it. Returns what is known of the file, if it exists.
 fn replace(
     filing: &mut Filing,
     dir: FileId,
@@ -52,10 +52,10 @@ fn replace(
     version: u16,
     file: FileId,
     names: &mut Names,
-) -> Result<Option<u16>, Why>
+) -> Result<Option<Stat>, Why>
     ensures { MatchResult result (λ held. IsReplaced dir name version file held names.old names.new filing.old filing.new) (IsNotReplaced dir name version file names.old filing.old filing.new) }
 {
-    let held = protection_of(filing, file)?;
+    let held = shown_of(filing, file)?;
     remove(filing, dir, name, version)?;
     take_name(filing, held.is_some(), file, names)?;
     Ok(held)
@@ -82,8 +82,8 @@ fn take_name(
     Ok(())
 }
 
-/// The protection of the file with this ID, if there is one. A directory is not replaced, nor is a file of the system.
-fn protection_of(filing: &mut Filing, file: FileId) -> Result<Option<u16>, Why>
+/// What a Stat shows of the file with this ID, if there is one. A directory is not replaced, nor is a file of the system.
+fn shown_of(filing: &mut Filing, file: FileId) -> Result<Option<Stat>, Why>
     ensures ok { IfOk result (λ held. IsThere filing.old file held filing.new) }
     ensures err { IfErr result (IsNotPlain filing.old file filing.new) }
 {
@@ -91,7 +91,7 @@ fn protection_of(filing: &mut Filing, file: FileId) -> Result<Option<u16>, Why>
     match filing.request(&Request::Stat { file }) {
         Ok(answer) => match answer {
             Answer::Info(stat) => match stat.kind {
-                Kind::Plain { .. } => Ok(Some(stat.protection)),
+                Kind::Plain { .. } => Ok(Some(stat)),
                 Kind::Directory { .. } => Err(Why::IsDirectory),
                 Kind::System => Err(Why::Request(Refusal::Reserved)),
             },

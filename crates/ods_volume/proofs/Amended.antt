@@ -1,5 +1,5 @@
 -- Changes that no request asks for: the volume after one is sound, and its counts are those that were counted.
-use Rattle.std.proofs.Common.{◌≡◌, ℕ, sym, subst, Bool, List, [], Option, None, refl, true, false}
+use Rattle.std.proofs.Common.{◌≡◌, ℕ, sym, subst, Bool, List, [], Option, Some, None, refl, true, false}
 use Rattle.ods_base.specs.declared.file_id.FileId.{FileId}
 use Rattle.ods_base.specs.declared.file_id.Uic.{Uic}
 use Rattle.ods_space.specs.Draft.{Changes, applied}
@@ -8,11 +8,11 @@ use Rattle.ods_alloc.specs.Counts.{AreCountsAfter, Counts}
 use Rattle.ods_mount.specs.Sound.{IsSoundBy}
 use Rattle.ods_request.specs.declared.refusals.Refusal.TheVariants as refusal
 use Rattle.ods_state.proofs.GrownMoves.{no_places}
-use Rattle.ods_amend.specs.Access.{IsGiven, IsNotGiven}
+use Rattle.ods_amend.specs.Access.{IsGiven, IsNotGiven, IsSet}
 use Rattle.ods_amend.specs.Bits.{AreMarked}
 use Rattle.ods_amend.specs.Label.{IsLabelled}
 use Rattle.ods_volume.specs.declared.ends.Falls.TheVariants.{Everything}
-use Rattle.ods_volume.specs.Amended.{IsChangeOfAccess, IsChangeOfLabel, IsChangeOfMarks}
+use Rattle.ods_volume.specs.Amended.{IsChangeOfAccess, IsChangeOfLabel, IsChangeOfMarks, IsChangeOfProtection}
 
 -- where everything falls nothing stays
 pub none_stays : false ≡ true → ⊥
@@ -26,7 +26,18 @@ access_changed {I} {L} {who} {id} {owner} {protection} {flags} {d} {counts} plac
     let same : with_places L places ≡ L = no_places L places none in
     record {
       given = (given, same);
-      lawful = record { sound = subst (IsSoundBy (applied I d)) (sym same) given.sound; counted = counted; ended = tt; kept = λ end stays known. absurd (none_stays stays); struck = λ f blocks index bitmap some held. tt };
+      lawful = record { sound = subst (IsSoundBy (applied I d)) (sym same) given.set.sound; counted = counted; ended = tt; kept = λ end stays known. absurd (none_stays stays); struck = λ f blocks index bitmap some held. tt };
+    }
+
+-- so is one of a protection word that is set
+pub protection_changed : {I : List (List ℕ)} {L : VolumeLayout} {id : FileId} {protection : ℕ} {d : Changes} {counts : Option Counts} (places : List ℕ)
+    → IsSet I L id None (Some protection) None (applied I d) → AreCountsAfter I (applied I d) L counts → places ≡ []
+    → IsChangeOfProtection (record { image = I; layout = L }) id protection (record { changes = d; places = places; counts = counts; end = None; falls = Everything })
+protection_changed {I} {L} {id} {protection} {d} {counts} places is counted none =
+    let same : with_places L places ≡ L = no_places L places none in
+    record {
+      set = (is, same);
+      lawful = record { sound = subst (IsSoundBy (applied I d)) (sym same) is.sound; counted = counted; ended = tt; kept = λ end stays known. absurd (none_stays stays); struck = λ f blocks index bitmap some held. tt };
     }
 
 -- a draft of storage bits is a lawful change

@@ -5,7 +5,7 @@ use Rattle.ods_base.specs.declared.file_id.FileId.{FileId}
 use Rattle.ods_base.specs.declared.file_id.Uic.{Uic}
 use Rattle.ods_space.specs.Layout.{Disk}
 use Rattle.ods_request.specs.declared.refusals.Refusal.{Refusal}
-use Rattle.ods_amend.specs.Access.{GivesAll, IsNotGiven}
+use Rattle.ods_amend.specs.Access.{GivesAll, IsNotGiven, IsNotProtected, Protects}
 use Rattle.ods_amend.specs.Bits.{MarksAs}
 use Rattle.ods_amend.specs.Label.{Relabels}
 use Rattle.ods_volume.specs.Changing.{IsLawfulChange, Parts, changed}
@@ -18,6 +18,15 @@ pub record IsChangeOfAccess (D : Disk) (who : Uic) (id : FileId) (owner : Option
 -- why the user may not, or cannot: the first fault by each catalogue that the blocks show, or out of memory
 abbrev pub IsWhyNotGiven : Disk → Uic → FileId → Refusal → Type 0
 IsWhyNotGiven D who id f = IsNotGiven D.image D.layout who id f
+
+-- The change sets this protection word of a file, without regard to rights.
+pub record IsChangeOfProtection (D : Disk) (id : FileId) (protection : ℕ) (p : Parts) : Type 0 where
+  pub set : Protects D id protection (changed D p)
+  pub lawful : IsLawfulChange D p
+
+-- why it cannot be set: there is no such file, or memory runs out
+abbrev pub IsWhyNotProtected : Disk → FileId → Refusal → Type 0
+IsWhyNotProtected D id f = IsNotProtected D.image D.layout id f
 
 -- The change sets this label of the volume.
 pub record IsChangeOfLabel (D : Disk) (label : List ℕ) (p : Parts) : Type 0 where

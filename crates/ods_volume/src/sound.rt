@@ -7,15 +7,15 @@ ghost use Rattle.ods_space.specs.{Disks.on, Free.free_blocks, Free.free_numbers}
 ghost use Rattle.ods_request.specs.Queries.{request_of};
 ghost use Rattle.ods_state.specs.{Outcome.CanBeAsked, Served.IsRefusalOf};
 ghost use Rattle.ods_change.specs.IndexGrown.{IsWhyNoHeaders};
-ghost use Rattle.ods_amend.specs.{Access.Gives, Access.GivesAll, Bits.IsLoose, Bits.MarksAs, Label.Relabels};
-ghost use Rattle.ods_volume.specs.Amended.{IsChangeOfAccess, IsChangeOfLabel, IsChangeOfMarks, IsWhyNotGiven};
+ghost use Rattle.ods_amend.specs.{Access.Gives, Access.GivesAll, Access.Protects, Access.protection_at, Bits.IsLoose, Bits.MarksAs, Label.Relabels};
+ghost use Rattle.ods_volume.specs.Amended.{IsChangeOfAccess, IsChangeOfLabel, IsChangeOfMarks, IsChangeOfProtection, IsWhyNotGiven, IsWhyNotProtected};
 ghost use Rattle.ods_volume.specs.Changing.{HasMoreHeaders, IsChangeFor, IsChangeOfHeaders, IsLawfulChange, IsStep, changed};
 
 use crate::ends::{Falls, KnownEnds, falls_for};
 use crate::noted::{LastUse, directory_in, directory_of, names_after, retagged};
 use crate::prepare::{carry_out, counts_after, look_only};
 use ods_alloc::FreeCounts;
-use ods_amend::{draft_access, draft_label, draft_marks};
+use ods_amend::{draft_access, draft_label, draft_marks, draft_protection};
 use ods_base::{FileId, NoMemory, Uic};
 use ods_change::grow_headers;
 use ods_init::Label;
@@ -410,6 +410,46 @@ impl Sound {
         let change = self.prepare_access(who, file, None, None, Some(flags))?;
         self.apply(change);
         Ok(())
+    }
+
+    /// What changes where a file has another protection word, with all the memory that this takes, and its present word. The volume stays as it is.
+    fn prepare_protection(&self, file: FileId, protection: u16) -> Result<(Change, u16), Refusal>
+        ensures { MatchResult result (λ prepared. IsChangeOfProtection self.now file protection prepared.0 × (prepared.1 ≡ protection_at self.now file)) (IsWhyNotProtected self.now file) }
+    {
+        let disk = self.mounted.disk();
+        let (draft, present) = match draft_protection(self.alloc, &disk, file, protection) {
+            Ok(drafted) => drafted,
+            Err(refusal) => return Err(refusal),
+        };
+        let Ok(counts) = self.counts.after(&disk, &draft) else {
+            return Err(Refusal::NoMemory);
+        };
+        // Nothing is noted then of where chains end.
+        let end = None;
+        let falls = Falls::Everything;
+        let places = Vec::new(self.alloc);
+        let set = Change {
+            draft,
+            places,
+            counts,
+            end,
+            falls,
+            used: 0,
+        };
+        Ok((set, present))
+    }
+
+    /// Sets the protection word (H.FPRO) in the first header of a file, and returns the word before. The file may be a system file, and no right is
+    /// required. The errors are NoSuchFile and NoMemory. After an error the volume is unchanged.
+    pub fn replace_protection(&mut self, file: FileId, protection: u16) -> Result<u16, Refusal>
+        ensures set { OnOk result (Protects self.old file protection self.new) }
+        ensures before { IfOk result (λ word. word ≡ protection_at self.old file) }
+        ensures refused { IfErr result (IsWhyNotProtected self.old file) }
+        ensures unchanged { OnErr result (self.new ≡ self.old) }
+    {
+        let (change, present) = self.prepare_protection(file, protection)?;
+        self.apply(change);
+        Ok(present)
     }
 
     /// What changes where the storage bitmap says of blocks that they are free, or taken, with all the memory that this takes. The volume stays as it is.

@@ -12,7 +12,7 @@ use std::alloc::Global;
 
 /// How `cp` is written.
 pub(crate) const ROW: Row<'static> = Row {
-    usage: "f11fs IMAGE cp [OPTIONS] [--contiguous] [--from IMAGE2 [-r] [--next] [--no-contiguous]] PATH.. PATH",
+    usage: "f11fs IMAGE cp [OPTIONS] [--contiguous] [--from IMAGE2 [-r] [-a] [--next] [--no-contiguous]] PATH.. PATH",
     about: "Copy files within the volume, or from the volume of another image",
     arguments: &[
         Argument::Text(
@@ -22,7 +22,11 @@ pub(crate) const ROW: Row<'static> = Row {
         ),
         Argument::Flag(
             "-r",
-            "With --from: copy all that is in a directory and below it",
+            "With --from: copy all that is in a directory and below it. A directory that is made gets the date and the protection of its original",
+        ),
+        Argument::Flag(
+            "-a",
+            "With --from: keep the owners too, as far as the user may give them. Default: the user owns the copies",
         ),
         Argument::Flag(
             "--next",
@@ -47,11 +51,12 @@ pub(crate) fn action<'a>(alloc: Global, own: &ArgMatches<'a>) -> Result<Action<'
     ensures refused { IfErr result (HasReason (IsUnasked Verb.Cp own.now)) }
 {
     let below = own.get_flag("-r");
+    let owners = own.get_flag("-a");
     let next = own.get_flag("--next");
     let contiguous = contiguity(own);
     let Some(from) = own.get_str("--from") else {
-        if below || next {
-            let text = "error: -r and --next do nothing for cp without --from";
+        if below || owners || next {
+            let text = "error: -r, -a and --next do nothing for cp without --from";
             return Err(say_wrong(alloc, text)?);
         }
         if contiguous == Some(false) {
@@ -65,6 +70,7 @@ pub(crate) fn action<'a>(alloc: Global, own: &ArgMatches<'a>) -> Result<Action<'
     Ok(Action::Change(Change::CpFrom(FromWords {
         from,
         below,
+        owners,
         next,
         contiguous,
     })))

@@ -36,13 +36,16 @@ pub(crate) const ROW: Row<'static> = Row {
         ),
         Argument::Flag(
             "--contiguous",
-            "Store each new file in consecutive blocks, and mark it contiguous. Default: only if the file of --like is contiguous",
+            "Store each new file in consecutive blocks, and mark it contiguous. Default: only if the file of --like, or the file that is replaced, is contiguous",
         ),
         Argument::Flag(
             "--no-contiguous",
             "Store the new files in any free blocks, even if the file of --like is contiguous",
         ),
-        Argument::Flag("--replace", "Replace the file. Default: add a version"),
+        Argument::Flag(
+            "--replace",
+            "Replace the file, and keep its owner, protection and characteristics. Default: add a version",
+        ),
         Argument::Text(
             "--owner",
             "OWNER",

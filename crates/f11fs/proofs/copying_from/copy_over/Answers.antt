@@ -9,8 +9,8 @@ pub returns-in-Ok-clause-done : goal.returns-in-Ok-clause-done
 returns-in-Ok-clause-done g c =
     let split : c.args.words.now.paths.items ≡ c.in-Some.paths.now ++ c.in-Some.to.now ∷ [] = search rules in
     let reader : c.reader_for.result ≡ reader_for (is_some c.args.words.now.user) c.args.filing.now.user = search rules in
-    let same : c.how_to_copy-how.result ≡ copying_said (reader_for (is_some c.args.words.now.user) c.args.filing.now.user) c.args.how.contiguous c.args.how.next =
-    c.how_to_copy-how.ensures ∙ ap (λ (r : Option Uic). copying_said r c.args.how.contiguous c.args.how.next) reader in
+    let same : c.how_to_copy-how.result ≡ copying_said (reader_for (is_some c.args.words.now.user) c.args.filing.now.user) c.args.how.contiguous c.args.how.next c.args.how.owners =
+    c.how_to_copy-how.ensures ∙ ap (λ (r : Option Uic). copying_said r c.args.how.contiguous c.args.how.next c.args.how.owners) reader in
     let disk = c.disk-disk.result in (
       c.in-Some.paths.now,
       (

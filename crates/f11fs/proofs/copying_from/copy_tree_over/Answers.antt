@@ -17,8 +17,8 @@ returns-in-Ok-clause-done g c =
     let none : c.in-Some-split_first.others.now ≡ [] = search (rules, no_words) in
     let two : words ≡ path ∷ to ∷ [] = split ∙ ap (λ (ps : List (Bor (List ℕ))). ps ++ to ∷ []) first ∙ ap (λ (os : List (Bor (List ℕ))). path ∷ (os ++ to ∷ [])) none in
     let reader : c.reader_for.result ≡ reader_for (is_some c.args.words.now.user) c.args.filing.now.user = search rules in
-    let same : c.how_to_copy-how.result ≡ copying_said (reader_for (is_some c.args.words.now.user) c.args.filing.now.user) c.args.how.contiguous c.args.how.next =
-    c.how_to_copy-how.ensures ∙ ap (λ (r : Option Uic). copying_said r c.args.how.contiguous c.args.how.next) reader in
+    let same : c.how_to_copy-how.result ≡ copying_said (reader_for (is_some c.args.words.now.user) c.args.filing.now.user) c.args.how.contiguous c.args.how.next c.args.how.owners =
+    c.how_to_copy-how.ensures ∙ ap (λ (r : Option Uic). copying_said r c.args.how.contiguous c.args.how.next c.args.how.owners) reader in
     let disk = c.disk-disk.result in (
       path,
       (

@@ -16,4 +16,4 @@ returns-clause-err g c =
 
 pub returns-clause-early : goal.returns-clause-early
 returns-clause-early g c place one first there =
-    subst (λ (o : Result (List (List ℕ) × Option Extent) VolumeFault). IfOk c.readable_of.result (λ volume. IsReadableOf o volume)) (c.taken_or_opened-opened.ensures place one first there) c.readable_of.ensures.ok
+    subst (λ (o : Result (List (List ℕ) × Option Extent) VolumeFault). IfOk c.readable_of.result (λ volume. IsReadableOf o volume)) (c.taken_or_opened-opened.ensures.early place one first there) c.readable_of.ensures.ok

@@ -1,8 +1,7 @@
 use Rattle.std.proofs.Common.{rules, ◌∙◌, ◌++◌, ◌∷◌, [], sym, ap, subst}
 use Rattle.std.specs.List.{All}
 use Rattle.std.proofs.lemmas.List.Elements.{All-push}
-use Rattle.f11fs.specs.TreeFaults.{AreKept, IsKept}
-use Rattle.f11fs.specs.TreePut.{IsPlaced}
+use Rattle.f11fs.specs.TreeFaults.{AreKept, IsKept, IsPlaced}
 use Rattle.f11fs.proofs.TreesKept.{kept_more}
 use Rattle.f11fs.proofs.judging_tree.judge_tree.Goals as goal
 

@@ -1,8 +1,7 @@
 use Rattle.std.proofs.Common.{◌≡◌, false}
 use Rattle.std.specs.Prelude.{None}
 use Rattle.std.specs.List.{All}
-use Rattle.f11fs.specs.TreeFaults.{AreKept}
-use Rattle.f11fs.specs.TreePut.{IsPlaced}
+use Rattle.f11fs.specs.TreeFaults.{AreKept, IsPlaced}
 use Rattle.f11fs.proofs.judging_tree.judge_tree.Given as goal
 
 -- What is kept has a place. Where nothing is told, and nothing may be left out, it is all that was looked at, and always just what of that is put.

@@ -1,7 +1,10 @@
 use Rattle.std.proofs.Common.{◌≡◌, ◌-◌, ◌<◌, length, arith}
 use Rattle.std.proofs.lemmas.List.Elements.{Contains-get_or}
-use Rattle.f11fs.proofs.Shares.{shared_on, sharing_all, sharing_on}
+use Rattle.f11fs.proofs.Shares.{none_behind, shared_on, sharing_all, sharing_on}
 use Rattle.f11fs.proofs.mending_shares.sharing_files.Goals as goal
+
+pub loop-k-init : goal.loop-k-init
+loop-k-init c = (c.in_ok-files.ensures, λ now. (now, λ j n line from at tells. none_behind c.args.lines.now c.in_ok-files.files.items j n line from at tells))
 
 pub loop-k-preserved : goal.loop-k-preserved
 loop-k-preserved c =

@@ -6,7 +6,7 @@ use Rattle.f11fs.proofs.putting.put.Goals as goal
 
 pub returns-clause-done : goal.returns-clause-done
 returns-clause-done g c =
-    put_all (is_some c.args.words.now.stamp) (is_some c.read_where-zone.result) c.args.how c.args.words.now.paths.items c.hosts-hosts.result.now c.path_among-to.result c.form_of.result c.placing_of.result c.args.stamp c.in-Ok.putting c.put_each.new.putting
+    put_all (g.R.Host.gives c.args.rt.now) (is_some c.args.words.now.stamp) (is_some c.read_where-zone.result) c.args.how c.args.words.now.paths.items c.hosts-hosts.result.now c.path_among-to.result c.form_of.result c.placing_of.result c.args.stamp c.in-Ok.putting c.put_each.new.putting
     c.args.filing.now c.make_ready.new.filing c.put_each.new.filing c.put_each.result
     (subst (λ (v : _). IsBegun v c.args.filing.now.layout c.args.stamp c.path_among-to.result (nat_lt 1 (length c.hosts-hosts.result.now)) c.form_of.result c.args.how.like c.placing_of.result c.args.how.replace c.args.how.owner c.in-Ok.putting) c.mounted.ensures.0 (subst (λ (v : _). IsBegun c.mounted.result.now.image v c.args.stamp c.path_among-to.result (nat_lt 1 (length c.hosts-hosts.result.now)) c.form_of.result c.args.how.like c.placing_of.result c.args.how.replace c.args.how.owner c.in-Ok.putting) c.mounted.ensures.1 c.in-Ok.ensures))
     (c.read_where-zone.ensures ∙ c.takes_times.ensures)

@@ -9,10 +9,10 @@ loop-entry-init g c = λ new rest. rest
 
 pub loop-entry-preserved : goal.loop-entry-preserved
 loop-entry-preserved g c =
-    entries_on (is_some c.args.zone.now) c.args.how.now c.args.dir c.args.entries.now c.loop-entry.entry-index c.entry-item.result c.loop-entry.filing c.put_entry.new.filing (λ new. AreEntriesPut (is_some c.args.zone.now) c.args.how.now c.args.dir c.args.entries.now c.args.filing.now new)
-    c.loop-entry-test.true c.loop-entry.invariant (subst (λ e. IsEntryPut (is_some c.args.zone.now) c.args.how.now c.args.dir e c.loop-entry.filing c.put_entry.new.filing) c.entry-item.is c.in_ok-put_entry.ensures.done)
+    entries_on (g.R.Host.gives c.args.rt.now) c.args.folder.now (is_some c.args.zone.now) c.args.how.now c.args.dir c.args.entries.now c.loop-entry.entry-index c.entry-item.result c.loop-entry.filing c.put_entry.new.filing (λ new. AreEntriesPut (g.R.Host.gives c.args.rt.now) c.args.folder.now (is_some c.args.zone.now) c.args.how.now c.args.dir c.args.entries.now c.args.filing.now new)
+    c.loop-entry-test.true c.loop-entry.invariant (subst (λ e. IsEntryPut (g.R.Host.gives c.args.rt.now) c.args.folder.now (is_some c.args.zone.now) c.args.how.now c.args.dir e c.loop-entry.filing c.put_entry.new.filing) c.entry-item.is c.in_ok-put_entry.ensures.done)
 
 pub returns-clause-done : goal.returns-clause-done
 returns-clause-done g c =
     c.loop-entry.invariant c.loop-entry.filing
-    (subst (λ l. AreEntriesPut (is_some c.args.zone.now) c.args.how.now c.args.dir l c.loop-entry.filing c.loop-entry.filing) (sym (drop_all c.loop-entry.entry-index _ c.loop-entry-test.false)) refl)
+    (subst (λ l. AreEntriesPut (g.R.Host.gives c.args.rt.now) c.args.folder.now (is_some c.args.zone.now) c.args.how.now c.args.dir l c.loop-entry.filing c.loop-entry.filing) (sym (drop_all c.loop-entry.entry-index _ c.loop-entry-test.false)) refl)

@@ -5,4 +5,4 @@ use Rattle.f11fs.proofs.putting_tree.put_entries.Given as goal
 
 -- what the rest leaves is what all leave
 abbrev pub invariant-loop-entry : goal.invariant-loop-entry
-invariant-loop-entry g l = (new : Filed) → AreEntriesPut (is_some l.zone) l.how l.dir (drop l.entry-index l.entries) l.filing new → AreEntriesPut (is_some l.zone) l.how l.dir l.entries l.initial.filing new
+invariant-loop-entry g l = (new : Filed) → AreEntriesPut (g.R.Host.gives l.rt) l.folder (is_some l.zone) l.how l.dir (drop l.entry-index l.entries) l.filing new → AreEntriesPut (g.R.Host.gives l.rt) l.folder (is_some l.zone) l.how l.dir l.entries l.initial.filing new

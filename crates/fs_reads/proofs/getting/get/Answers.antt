@@ -3,6 +3,7 @@ use Rattle.std.specs.List.{All}
 use Rattle.ods_shell.specs.Contents.{IsGot}
 use Rattle.ods_shell.specs.declared.form.Remark.{Remark}
 use Rattle.fs_reads.specs.Gets.{AreSaid, IsAmong, IsGettable}
+use Rattle.fs_reads.specs.Targets.{IsWritten}
 use Rattle.fs_reads.proofs.FilesGot.{both_done, paths_got}
 use Rattle.fs_reads.proofs.getting.get.Goals as goal
 
@@ -11,7 +12,7 @@ returns-clause-done g c = λ e.
     let I = c.args.disk.now.image.now in
     let L = c.args.disk.now.layout.now in
     let user = c.args.words.now.user in
-    let Gives : ℕ → List ℕ → Option Remark → Type 0 = λ n. IsGot I L n c.args.wanted in
+    let Gives : ℕ → List ℕ → Option Remark → Type 0 = IsWritten c.args.words.now.saving.only_tells (g.T.Targets.took c.get_all.new.targets) (λ n. IsGot I L n c.args.wanted) in
     let both = both_done c.in_ok-named.named c.in_ok-get_all.field-0 c.or.result c.or.ensures.done c.or.ensures.fault e in
     let paths = c.split_words.result.0.now in
     let target = c.split_words.result.1 in

@@ -4,6 +4,7 @@ use Rattle.std.specs.List.{All}
 use Rattle.ods_shell.specs.Contents.{IsGot}
 use Rattle.ods_shell.specs.declared.status.Status.TheVariants as status
 use Rattle.fs_reads.specs.Ends.{may_name}
+use Rattle.fs_reads.specs.Targets.{IsWritten, StayTaken}
 use Rattle.fs_reads.specs.TreesGot.{IsDirectoryGot}
 use Rattle.fs_reads.proofs.getting_tree.get_directories.Given as goal
 
@@ -11,5 +12,6 @@ abbrev pub invariant-loop-directory : goal.invariant-loop-directory
 invariant-loop-directory g l = record {
   may : may_name l.status ≡ true;
   done : l.status ≡ status.Done
-      → All (IsDirectoryGot l.disk.image.now l.disk.layout.now l.how.reader.user (λ n. IsGot l.disk.image.now l.disk.layout.now n l.how.wanted)) (take l.directory-index l.directories);
+      → All (IsDirectoryGot l.disk.image.now l.disk.layout.now l.how.reader.user (IsWritten l.how.only_tells (g.T.Targets.took l.targets) (λ n. IsGot l.disk.image.now l.disk.layout.now n l.how.wanted))) (take l.directory-index l.directories);
+  stay : StayTaken (g.T.Targets.took l.initial.targets) (g.T.Targets.took l.targets);
 }

@@ -7,6 +7,7 @@ use Rattle.ods_shell.specs.declared.folders.Directory.{Directory}
 use Rattle.ods_shell.specs.declared.form.Remark.{Remark}
 use Rattle.fs_reads.specs.Denied.{IsClosedStatus}
 use Rattle.fs_reads.specs.Gets.{AreSaid}
+use Rattle.fs_reads.specs.Targets.{IsWritten}
 use Rattle.fs_reads.specs.TreesGot.{IsDirectoryGot}
 use Rattle.fs_reads.proofs.FilesGot.{both_done}
 use Rattle.fs_reads.proofs.TreeFiles.{none_closed, past_none}
@@ -17,7 +18,7 @@ returns-clause-done g c = λ e.
     let I = c.args.disk.now.image.now in
     let L = c.args.disk.now.layout.now in
     let user = c.args.words.now.user in
-    let Gives : ℕ → List ℕ → Option Remark → Type 0 = λ n. IsGot I L n c.args.wanted in
+    let Gives : ℕ → List ℕ → Option Remark → Type 0 = IsWritten c.args.words.now.saving.only_tells (g.T.Targets.took c.get_directories.new.targets) (λ n. IsGot I L n c.args.wanted) in
     let both = both_done c.in_ok-shut.shut c.in_ok-got.got c.or.result c.or.ensures.done c.or.ensures.fault e in
     let path = c.in_ok-path.path in
     let target = c.split_words.result.1 in

@@ -1,14 +1,13 @@
--- The files so far are got, where nothing was wrong.
+-- The files so far are written.
 use Rattle.std.proofs.Common.{◌≡◌, true, take}
-use Rattle.std.specs.List.{All}
-use Rattle.ods_shell.specs.Contents.{IsGot}
-use Rattle.ods_shell.specs.declared.status.Status.TheVariants as status
+use Rattle.fs_reads.specs.Cats.{HoldsFiles, IsFileOutput}
 use Rattle.fs_reads.specs.Ends.{may_name}
-use Rattle.fs_reads.specs.Gets.{IsGettable}
+use Rattle.fs_reads.specs.Parts.{HaveParts}
 use Rattle.fs_reads.proofs.printing.cat_files.Given as goal
 
 abbrev pub invariant-loop-found : goal.invariant-loop-found
 invariant-loop-found g l = record {
   may : may_name l.status ≡ true;
-  done : l.status ≡ status.Done → All (IsGettable l.reader.user (λ n. IsGot l.disk.image.now l.disk.layout.now n l.wanted)) (take l.found-index l.files);
+  held : HoldsFiles (g.W.Write.contents l.initial.writer) (g.W.Write.contents l.writer) l.status
+      (HaveParts (IsFileOutput l.disk.image.now l.disk.layout.now l.wanted l.reader.user) (take l.found-index l.files));
 }

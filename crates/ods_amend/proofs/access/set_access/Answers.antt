@@ -5,7 +5,7 @@ use Rattle.ods_amend.proofs.access.set_access.Goals as goal
 pub apply-requires : goal.apply-requires
 apply-requires c =
     let lent : record { image = c.disk.result.image.now; layout = c.disk.result.layout.now } ≡ c.args.volume.now = λ i. record { image = c.disk.ensures.image i; layout = c.disk.ensures.layout i } in
-    record { sound = lent_sound c.in-Ok.draft lent c.in-Ok.ensures.sound }
+    record { sound = lent_sound c.in-Ok.draft lent c.in-Ok.ensures.set.sound }
 
 pub returns-in-Ok : goal.returns-in-Ok
 returns-in-Ok c =

@@ -10,7 +10,7 @@ returns-in-Err-clause-refused g c =
       c.index-all-i.result,
       why.0,
       why.1,
-      partly_stops (g.P.Plan.request_of c.args.plan.now) c.args.filing.now c.args.all.now c.loop-i.i c.index-all-i.result c.loop-i.filing c.ask.new.filing why.0 c.loop-i-test.true c.index-all-i.is c.loop-i.invariant c.in-Err.ensures.unchanged why.2,
+      partly_stops (g.P.Plan.request_of c.args.plan.now) c.args.filing.now c.args.all.now c.loop-i.i c.index-all-i.result c.loop-i.filing c.ask.new.filing why.0 c.loop-i-test.true c.index-all-i.is c.loop-i.invariant why.2 why.3,
     )
 
 pub loop-i-preserved : goal.loop-i-preserved

@@ -5,7 +5,7 @@ use Rattle.ods_repair.specs.Asked.{AsksAll, StopsAt}
 use Rattle.ods_repair.specs.Found.{AreNamed, entry_of}
 use Rattle.ods_repair.proofs.Founding.{are_found}
 use Rattle.ods_repair.proofs.FreedAll.{same_here}
-use Rattle.ods_repair.proofs.Refusing.{entered_led, not_found}
+use Rattle.ods_repair.proofs.Refusing.{not_found}
 use Rattle.ods_repair.proofs.entering.enter_lost.Goals as goal
 use Rattle.ods_repair.proofs.entering.enter_lost.Goals.{After-disk-3}
 
@@ -28,18 +28,12 @@ found : (c : After-disk-3) → AreNamed c.args.filing.now.image c.args.filing.no
 found c =
     same_here (λ K M. AreNamed K M c.in_ok-found.found.items) c.disk-2.result.image.now c.args.filing.now.image c.disk-2.result.layout.now c.args.filing.now.layout c.disk-2.ensures.image c.disk-2.ensures.layout c.in_ok-found.ensures
 
-pub returns-in-Err-clause-led : goal.returns-in-Err-clause-led
-returns-in-Err-clause-led c = let stop = c.in-Err.ensures.refused.3 in entered_led c.args.dir c.args.filing.now c.ask_all-asked.new.filing stop.before stop.asked
-
 pub returns-in-Err-clause-refused : goal.returns-in-Err-clause-refused
 returns-in-Err-clause-refused c =
     let all = (goal.at.returns-in-Err-clause-refused c).After-disk-3 in
     let why = c.in-Err.ensures.refused in
     not_found c.args.filing.now c.ask_all-asked.new.filing c.args.dir c.in_ok-found.found.items (found all) c.in-Err.why why.0 why.1 why.2
     (subst (λ ls. StopsAt (entry_of c.args.dir) c.args.filing.now ls c.ask_all-asked.new.filing why.0 why.1) c.deref-2.ensures.value why.3)
-
-pub returns-clause-led : goal.returns-clause-led
-returns-clause-led c = entered_led c.args.dir c.args.filing.now c.ask_all-asked.new.filing c.deref-2.result.now c.in_default.ensures.done
 
 pub returns-clause-done : goal.returns-clause-done
 returns-clause-done c =

@@ -5,7 +5,7 @@ use Rattle.ods_repair.specs.Asked.{AsksAll, StopsAt}
 use Rattle.ods_repair.specs.Cleared.{removal_of}
 use Rattle.ods_repair.proofs.Clearing.{are_cleared}
 use Rattle.ods_repair.proofs.FreedAll.{same_here}
-use Rattle.ods_repair.proofs.Refusing.{not_cleared, removed_led}
+use Rattle.ods_repair.proofs.Refusing.{not_cleared}
 use Rattle.ods_repair.proofs.removing.remove_dangling.Goals as goal
 use Rattle.ods_repair.proofs.removing.remove_dangling.Goals.{After-disk-2}
 
@@ -22,18 +22,12 @@ found : (c : After-disk-2) → AreDangling c.args.filing.now.image c.args.filing
 found c =
     same_here (λ K M. AreDangling K M c.in_ok-found.found.items) c.disk.result.image.now c.args.filing.now.image c.disk.result.layout.now c.args.filing.now.layout c.disk.ensures.image c.disk.ensures.layout c.in_ok-found.ensures
 
-pub returns-in-Err-clause-led : goal.returns-in-Err-clause-led
-returns-in-Err-clause-led c = let stop = c.in-Err.ensures.refused.3 in removed_led c.args.filing.now c.ask_all-asked.new.filing stop.before stop.asked
-
 pub returns-in-Err-clause-refused : goal.returns-in-Err-clause-refused
 returns-in-Err-clause-refused c =
     let all = (goal.at.returns-in-Err-clause-refused c).After-disk-2 in
     let why = c.in-Err.ensures.refused in
     not_cleared c.args.filing.now c.ask_all-asked.new.filing (sound_before all) c.in_ok-found.found.items (found all) c.in-Err.why why.0 why.1 why.2
     (subst (λ ls. StopsAt removal_of c.args.filing.now ls c.ask_all-asked.new.filing why.0 why.1) c.deref.ensures.value why.3)
-
-pub returns-clause-led : goal.returns-clause-led
-returns-clause-led c = removed_led c.args.filing.now c.ask_all-asked.new.filing c.deref.result.now c.in_default.ensures.done
 
 pub returns-clause-done : goal.returns-clause-done
 returns-clause-done c =

@@ -1,10 +1,13 @@
-use Rattle.std.proofs.Common.{refl, subst, Some}
+use Rattle.std.proofs.Common.{refl, subst, Some, false}
 use Rattle.std.proofs.lemmas.Result.{IfErr-weaker, err_from_is_err_and}
 use Rattle.ods_upkeep.specs.Copied.{IsCopyable}
 use Rattle.ods_upkeep.specs.Uncopied.{IsCopyUnmade, IsNotCopied, unread}
 use Rattle.ods_upkeep.proofs.Copies.{is_copied, may_not, not_copied}
 use Rattle.ods_upkeep.proofs.Lists.{if_done}
 use Rattle.ods_upkeep.proofs.copying.copy.Goals as goal
+
+pub returns-clause-led : goal.returns-clause-led
+returns-clause-led c anywhere = c.make_copy.ensures.led false (λ none. refl) anywhere
 
 pub returns-clause-done : goal.returns-clause-done
 returns-clause-done c =

@@ -1,4 +1,4 @@
-use Rattle.std.proofs.Common.{◌≡◌, drop}
+use Rattle.std.proofs.Common.{◌≡◌, drop, false}
 use Rattle.ods_filing.specs.Filed.{Filed}
 use Rattle.ods_upkeep.specs.Copied.{AreCopied}
 use Rattle.ods_upkeep.specs.Kinds.{Copies}
@@ -10,7 +10,7 @@ use Rattle.ods_upkeep.proofs.copying.copy_all.Given as goal
 
 abbrev pub invariant-loop-found : goal.invariant-loop-found
 invariant-loop-found l = record {
-  led : l.placing ≡ Anywhere → IsLedGiving Copies l.initial.filing l.filing;
+  led : l.placing ≡ Anywhere → IsLedGiving false Copies l.initial.filing l.filing;
   copies : (new : Filed) → AreCopied l.placing l.target l.stamp (drop l.found-index l.all) l.filing new → AreCopied l.placing l.target l.stamp l.all l.initial.filing new;
   stops : (new : Filed) (failure : Failure) → StopsCopying l.placing l.target l.stamp (drop l.found-index l.all) l.filing new failure → StopsCopying l.placing l.target l.stamp l.all l.initial.filing new failure;
 }

@@ -12,16 +12,16 @@ use Rattle.ods_upkeep.proofs.PutLists.{own_made}
 use Rattle.ods_upkeep.proofs.copying.make_copy.Goals as goal
 
 pub returns-in-Ok-clause-led : goal.returns-in-Ok-clause-led
-returns-in-Ok-clause-led c anywhere =
+returns-in-Ok-clause-led c owners alone anywhere =
     let looked : IsLed Copies c.args.filing.now c.next_version-version.new.filing = asked (LookUp c.args.target.now.directory c.args.name Highest) tt c.next_version-version.ensures.looked in
     let is : c.user-user.result ≡ c.next_version-version.new.filing.user = c.user-user.ensures ∙ sym (same_user looked) in
     let made : IsLed Copies c.next_version-version.new.filing c.put_new.new.filing =
     own_made _ _ _ _ _ c.in_ok-copy.copy c.next_version-version.new.filing c.put_new.new.filing c.args.placing c.user-user.result anywhere is c.in_ok-copy.ensures.made in
-    one_leg c.in_ok-copy.copy c.args.facts.now.protection (then_led looked made) c.in-Ok.ensures.given
+    one_leg owners c.in_ok-copy.copy c.args.owner c.args.facts.now.protection alone (then_led looked made) c.in-Ok.ensures.given
 
 pub returns-in-Ok-clause-done : goal.returns-in-Ok-clause-done
 returns-in-Ok-clause-done c =
-    copy_made c.args.placing c.args.target.now c.args.name c.args.stamp c.args.facts.now c.args.filing.now c.next_version-version.new.filing c.put_new.new.filing c.set_access.new.self c.user-user.result
+    copy_made c.args.placing c.args.target.now c.args.name c.args.stamp c.args.owner c.args.facts.now c.args.filing.now c.next_version-version.new.filing c.put_new.new.filing c.set_access.new.self c.user-user.result
     c.in_ok-attributes.attributes c.args.bytes.now c.next_version-version.result c.in_ok-copy.copy c.user-user.ensures c.in_ok-attributes.ensures.ok c.next_version-version.ensures.next c.in_ok-copy.ensures.made c.in-Ok.ensures.given
 
 pub returns-in-Err-clause-refused : goal.returns-in-Err-clause-refused

@@ -10,7 +10,7 @@ use Rattle.ods_upkeep.proofs.copying_from.copy_all_over.Given as goal
 
 abbrev pub invariant-loop-found : goal.invariant-loop-found
 invariant-loop-found l = record {
-  led : l.how.placing ≡ Some Anywhere → IsLedGiving Copies l.initial.filing l.filing;
+  led : l.how.placing ≡ Some Anywhere → IsLedGiving l.how.owners Copies l.initial.filing l.filing;
   copies : (new : Filed) → AreCopiedOver l.other.image.now l.other.layout.now l.how l.target l.stamp (drop l.found-index l.all) l.filing new
       → AreCopiedOver l.other.image.now l.other.layout.now l.how l.target l.stamp l.all l.initial.filing new;
   stops : (new : Filed) (failure : Failure) → StopsCopyingOver l.other.image.now l.other.layout.now l.how l.target l.stamp (drop l.found-index l.all) l.filing new failure

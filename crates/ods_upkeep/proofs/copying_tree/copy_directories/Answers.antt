@@ -1,12 +1,12 @@
-use Rattle.std.proofs.Common.{refl, subst, sym}
-use Rattle.std.proofs.lemmas.List.{drop_all}
 use Rattle.std.proofs.lemmas.Result.{err_from_is_err_and}
-use Rattle.ods_upkeep.specs.CopiedTree.{AreDirectoriesCopied}
-use Rattle.ods_upkeep.proofs.CopiedTrees.{tree_on, tree_stops_here, tree_stops_on}
+use Rattle.ods_upkeep.proofs.CopiedTrees.{along_all, along_next, along_none, tree_stops_here, tree_stops_on}
 use Rattle.ods_upkeep.proofs.copying_tree.copy_directories.Goals as goal
 
 pub loop-directory-init : goal.loop-directory-init
-loop-directory-init c = record { copies = λ new copied. copied; stops = λ new failure stop. stop }
+loop-directory-init c = record {
+  copies = along_none c.args.other.now.image.now c.args.other.now.layout.now c.args.how.now c.args.stamp c.args.path.now c.args.dir c.args.depth c.args.directories.now c.args.filing.now c.args.due.now.items;
+  stops = λ new failure stop. stop;
+}
 
 pub loop-directory-preserved : goal.loop-directory-preserved
 loop-directory-preserved c =
@@ -16,20 +16,17 @@ loop-directory-preserved c =
     let one = c.in_ok-copy_directory.ensures.done in
     let item = c.directory-item in
     record {
-      copies = λ new copied. so_far.copies new
-          (tree_on I L c.args.how.now c.args.stamp c.args.dir c.args.depth c.args.directories.now c.loop-directory.directory-index item.result c.loop-directory.filing c.copy_directory.new.filing new
-          c.loop-directory-test.true item.is one copied);
+      copies = along_next I L c.args.how.now c.args.stamp c.args.path.now c.args.dir c.args.depth c.args.directories.now c.loop-directory.directory-index item.result c.args.filing.now c.loop-directory.filing c.copy_directory.new.filing
+          c.args.due.now.items c.loop-directory.due.items c.copy_directory.new.due.items c.loop-directory-test.true item.is so_far.copies one;
       stops = λ new failure stop. so_far.stops new failure
-          (tree_stops_on I L c.args.how.now c.args.stamp c.args.path.now c.args.dir c.args.depth c.args.directories.now c.loop-directory.directory-index item.result c.loop-directory.filing c.copy_directory.new.filing new failure
-          c.loop-directory-test.true item.is one stop);
+          (tree_stops_on I L c.args.how.now c.args.stamp c.args.path.now c.args.dir c.args.depth c.args.directories.now c.loop-directory.directory-index item.result one.0 c.loop-directory.filing c.copy_directory.new.filing new failure
+          c.loop-directory-test.true item.is one.2 stop);
     }
 
 pub returns-clause-done : goal.returns-clause-done
 returns-clause-done c =
-    let I = c.args.other.now.image.now in
-    let L = c.args.other.now.layout.now in
-    c.loop-directory.invariant.copies c.loop-directory.filing
-    (subst (λ l. AreDirectoriesCopied I L c.args.how.now c.args.stamp c.args.dir c.args.depth l c.loop-directory.filing c.loop-directory.filing) (sym (drop_all c.loop-directory.directory-index c.args.directories.now c.loop-directory-test.false)) refl)
+    along_all c.args.other.now.image.now c.args.other.now.layout.now c.args.how.now c.args.stamp c.args.path.now c.args.dir c.args.depth c.args.directories.now c.loop-directory.directory-index c.args.filing.now c.loop-directory.filing
+    c.args.due.now.items c.loop-directory.due.items c.loop-directory-test.false c.loop-directory.invariant.copies
 
 pub returns-in_err-copy_directory-clause-refused : goal.returns-in_err-copy_directory-clause-refused
 returns-in_err-copy_directory-clause-refused c =
@@ -39,5 +36,5 @@ returns-in_err-copy_directory-clause-refused c =
     let p = err_from_is_err_and c.from_residual.result c.from_residual.ensures.1 in
     rw (p.1, p.2)
     (c.loop-directory.invariant.stops c.copy_directory.new.filing _
-    (tree_stops_here _ I L c.args.how.now c.args.stamp c.args.path.now c.args.dir c.args.depth c.args.directories.now c.loop-directory.directory-index item.result c.loop-directory.filing c.copy_directory.new.filing
+    (tree_stops_here I L c.args.how.now c.args.stamp c.args.path.now c.args.dir c.args.depth c.args.directories.now _ c.loop-directory.directory-index item.result c.loop-directory.filing c.copy_directory.new.filing
     c.loop-directory-test.true item.is c.in_err-copy_directory.ensures.refused))

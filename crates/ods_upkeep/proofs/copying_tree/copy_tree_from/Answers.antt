@@ -3,7 +3,7 @@ use Rattle.std.proofs.lemmas.Result.{IfErr-weaker, err_from_is_err_and}
 use Rattle.ods_upkeep.specs.CopiedTree.{AreDirectoriesCopied, depth_of}
 use Rattle.ods_upkeep.specs.Refused.{HasPath}
 use Rattle.ods_upkeep.specs.Target.{IsNoTarget, IsTarget}
-use Rattle.ods_upkeep.specs.UncopiedTree.{IsNoTree, IsTreeUncopied, StopsCopyingTree}
+use Rattle.ods_upkeep.specs.UncopiedTree.{IsNoTree, IsTreeUncopied, IsUncopiedBelow}
 use Rattle.ods_upkeep.proofs.Lists.{if_done}
 use Rattle.ods_upkeep.proofs.Naming.{same_disk}
 use Rattle.ods_upkeep.proofs.copying_tree.copy_tree_from.Goals as goal
@@ -13,34 +13,41 @@ returns-clause-done c =
     let I = c.args.other.now.image.now in
     let L = c.args.other.now.layout.now in
     let old = c.args.filing.now in
-    let new = c.copy_directories.new.filing in
+    let new = c.copy_and_give.new.filing in
     let tree = c.in-Ok.tree.directories.items in
     let to = c.in_ok-target.target in
     let depth : c.depth_of-depth.result ≡ depth_of tree = c.depth_of-depth.ensures ∙ ap depth_of c.deref.ensures.value in
     let target : IsTarget old.image old.layout 2 c.args.to.now to = same_disk (λ J M. IsTarget J M 2 c.args.to.now to) c.mounted.ensures.0 c.mounted.ensures.1 c.in_ok-target.ensures in
-    if_done c.copy_directories.result
+    if_done c.copy_and_give.result
     (λ copied. (
       tree,
       (
         to,
         c.in-Ok.ensures,
         target,
-        subst (λ n. AreDirectoriesCopied I L c.args.how c.args.stamp to.directory n tree old new) depth
-            (subst (λ l. AreDirectoriesCopied I L c.args.how c.args.stamp to.directory c.depth_of-depth.result l old new) c.deref-2.ensures.value copied),
+        (
+          copied.0,
+          (
+            copied.1.0,
+            subst (λ n. AreDirectoriesCopied I L c.args.how c.args.stamp c.args.path.now to.directory n tree copied.0 old copied.1.0) depth
+                (subst (λ l. AreDirectoriesCopied I L c.args.how c.args.stamp c.args.path.now to.directory c.depth_of-depth.result l copied.0 old copied.1.0) c.deref-2.ensures.value copied.1.1),
+            copied.1.2,
+          ),
+        ),
       ),
-    )) c.copy_directories.ensures.done
+    )) c.copy_and_give.ensures.done
 
 pub returns-clause-refused : goal.returns-clause-refused
 returns-clause-refused c =
     let I = c.args.other.now.image.now in
     let L = c.args.other.now.layout.now in
     let old = c.args.filing.now in
-    let new = c.copy_directories.new.filing in
+    let new = c.copy_and_give.new.filing in
     let tree = c.in-Ok.tree.directories.items in
     let to = c.in_ok-target.target in
     let depth : c.depth_of-depth.result ≡ depth_of tree = c.depth_of-depth.ensures ∙ ap depth_of c.deref.ensures.value in
     let target : IsTarget old.image old.layout 2 c.args.to.now to = same_disk (λ J M. IsTarget J M 2 c.args.to.now to) c.mounted.ensures.0 c.mounted.ensures.1 c.in_ok-target.ensures in
-    IfErr-weaker c.copy_directories.result (StopsCopyingTree I L c.args.how c.args.stamp c.args.path.now to.directory c.depth_of-depth.result c.deref-2.result.now old new)
+    IfErr-weaker c.copy_and_give.result (IsUncopiedBelow I L c.args.how c.args.stamp c.args.path.now to.directory c.depth_of-depth.result c.deref-2.result.now old new)
     (IsTreeUncopied I L c.args.how c.args.stamp c.args.path.now c.args.to.now old new)
     (λ failure stops. inr (
       tree,
@@ -48,11 +55,11 @@ returns-clause-refused c =
       inr (
         to,
         target,
-        subst (λ n. StopsCopyingTree I L c.args.how c.args.stamp c.args.path.now to.directory n tree old new failure) depth
-            (subst (λ l. StopsCopyingTree I L c.args.how c.args.stamp c.args.path.now to.directory c.depth_of-depth.result l old new failure) c.deref-2.ensures.value stops),
+        subst (λ n. IsUncopiedBelow I L c.args.how c.args.stamp c.args.path.now to.directory n tree old new failure) depth
+            (subst (λ l. IsUncopiedBelow I L c.args.how c.args.stamp c.args.path.now to.directory c.depth_of-depth.result l old new failure) c.deref-2.ensures.value stops),
       ),
     ))
-    c.copy_directories.ensures.refused
+    c.copy_and_give.ensures.refused
 
 pub returns-in-Err-clause-refused : goal.returns-in-Err-clause-refused
 returns-in-Err-clause-refused c =

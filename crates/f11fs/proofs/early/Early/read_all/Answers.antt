@@ -9,10 +9,10 @@ loop-path-init g c = λ new rest. rest
 
 pub loop-path-preserved : goal.loop-path-preserved
 loop-path-preserved g c =
-    readings_on c.args.paths.now c.loop-path.path-index _ c.loop-path.self _ (λ new. MayAddReadings c.args.paths.now c.args.self.now new)
+    readings_on (g.R.Host.gives c.args.rt.now) c.args.paths.now c.loop-path.path-index _ c.loop-path.self _ (λ new. MayAddReadings (g.R.Host.gives c.args.rt.now) c.args.paths.now c.args.self.now new)
     c.loop-path-test.true c.loop-path.invariant c.in_ok-read_stream.ensures
 
 pub returns : goal.returns
 returns g c =
     c.loop-path.invariant c.loop-path.self
-    (subst (λ l. MayAddReadings l c.loop-path.self c.loop-path.self) (sym (drop_all c.loop-path.path-index _ c.loop-path-test.false)) refl)
+    (subst (λ l. MayAddReadings (g.R.Host.gives c.args.rt.now) l c.loop-path.self c.loop-path.self) (sym (drop_all c.loop-path.path-index _ c.loop-path-test.false)) refl)

@@ -2,7 +2,7 @@ use Rattle.std.proofs.Common.{subst}
 use Rattle.ods_mount.specs.Sound.{IsSoundBy}
 use Rattle.ods_space.specs.Layout.{Disk}
 use Rattle.ods_upkeep.proofs.Making.{is_info}
-use Rattle.ods_upkeep.proofs.rooms.protection_of.Goals as goal
+use Rattle.ods_upkeep.proofs.rooms.shown_of.Goals as goal
 
 pub unreachable-requires : goal.unreachable-requires
 unreachable-requires c =
