@@ -18,6 +18,7 @@ use Rattle.ods_filing.specs.Led.{IsLed}
 use Rattle.ods_filing.proofs.Led.{stays}
 use Rattle.ods_request.specs.declared.requests.Request.{Request}
 use Rattle.f11fs.specs.Changed.{AreAllDone, AreLinesDone, AreLinesEnded, AsksChange, EndsRun, GoesOn, HasSameVolume, IsChanged, IsDoneBy, IsDoneNow, IsLineDone, first_fault, is_refused}
+use Rattle.f11fs.specs.Given.{HostGives}
 
 -- what holds where a change is made holds where the command ends well
 pub through : {A B E F : Type 0} (P : Type 0) (done : Result A E) (r : Result B F) → OnOk done P → OnOk r (IsOk done) → OnOk r P
@@ -25,11 +26,11 @@ through P (Ok x) r holds ends = on_ok_weaker r (λ _. holds) ends
 through P (Err e) r holds ends = on_ok_weaker r (λ wrong. absurd (cc)) ends
 
 -- a change that is made whole
-pub changed_now : (G : List ℕ → List ℕ → Type 0) (asked : Action) (c : Change) (words : List (Bor (List ℕ))) (stamp : List ℕ) (s : Status) (old new : Filed) → asked ≡ action.Change c → s ≡ status.Done → IsChanged G c words stamp old new → IsDoneNow G asked words stamp s old new
+pub changed_now : (G : HostGives) (asked : Action) (c : Change) (words : List (Bor (List ℕ))) (stamp : List ℕ) (s : Status) (old new : Filed) → asked ≡ action.Change c → s ≡ status.Done → IsChanged G c words stamp old new → IsDoneNow G asked words stamp s old new
 changed_now G asked c count stamp s old new asks done is = inr (c, asks, done, is)
 
 -- a change that is made whole or not at all
-pub kept_now : (G : List ℕ → List ℕ → Type 0) (asked : Action) (c : Change) (words : List (Bor (List ℕ))) (stamp : List ℕ) (s : Status) (old new : Filed) → asked ≡ action.Change c
+pub kept_now : (G : HostGives) (asked : Action) (c : Change) (words : List (Bor (List ℕ))) (stamp : List ℕ) (s : Status) (old new : Filed) → asked ≡ action.Change c
     → ((s ≡ status.Done) × IsChanged G c words stamp old new) ⊎ ((is_refused s ≡ true) × (new ≡ old)) → IsDoneNow G asked words stamp s old new
 kept_now G asked c count stamp s old new asks (inl is) = inr (c, asks, is.0, is.1)
 kept_now G asked c count stamp s old new asks (inr same) = inl same.1
@@ -39,17 +40,17 @@ pub unmoved : (Allows : Request → Type 0) (f : Filed) → IsLed Allows f f
 unmoved Allows f = stays {Allows = Allows} f
 
 -- a line that leaves the volume as it was
-pub line_left : (G : List ℕ → List ℕ → Type 0) (image : Bor (List ℕ)) (stamp : List ℕ) (user : Uic) (line : List ℕ) (s : Status) (f : Filed) → IsLineDone G image stamp user line s f f
+pub line_left : (G : HostGives) (image : Bor (List ℕ)) (stamp : List ℕ) (user : Uic) (line : List ℕ) (s : Status) (f : Filed) → IsLineDone G image stamp user line s f f
 line_left G image stamp user line s f = inl (refl, refl)
 
 -- a line whose command is done
-pub line_done : (G : List ℕ → List ℕ → Type 0) (image : Bor (List ℕ)) (stamp : List ℕ) (user : Uic) (line : List ℕ) (words : List (List ℕ)) (own : Words) (s : Status) (old new : Filed)
+pub line_done : (G : HostGives) (image : Bor (List ℕ)) (stamp : List ℕ) (user : Uic) (line : List ℕ) (words : List (List ℕ)) (own : Words) (s : Status) (old new : Filed)
     → words_in line ≡ Some words → IsLineOf image words (Some own) → IsDoneBy G own.action own.paths.items (unwrap_or own.stamp stamp) (unwrap_or own.user user) s old new
     → IsLineDone G image stamp user line s old new
 line_done G image stamp user line words own s old new read asks done = inr (own, (words, read, asks), done)
 
 -- one line more
-pub one_line : (G : List ℕ → List ℕ → Type 0) (image : Bor (List ℕ)) (stamp : List ℕ) (user : Uic) (goes_on : Bool) (lines : List (List ℕ)) (statuses : List Status) (line : List ℕ) (s : Status) (old mid new : Filed)
+pub one_line : (G : HostGives) (image : Bor (List ℕ)) (stamp : List ℕ) (user : Uic) (goes_on : Bool) (lines : List (List ℕ)) (statuses : List Status) (line : List ℕ) (s : Status) (old mid new : Filed)
     → AreLinesDone G image stamp user goes_on lines statuses old mid → GoesOn goes_on s → IsLineDone G image stamp user line s mid new
     → AreLinesDone G image stamp user goes_on (lines ++ line ∷ []) (statuses ++ s ∷ []) old new
 one_line G image stamp user goes_on [] statuses line s old mid new before goes last =
@@ -79,14 +80,14 @@ fault_next (status.Nothing ∷ rest) s so_far now is done fault = fault (λ e. l
 fault_next (status.Found ∷ rest) s so_far now is done fault = fault (λ e. let clash : status.Found ≡ status.Done = sym is ∙ e in absurd (cc)) ∙ is
 
 -- the same with the lines that are done
-pub all_next : (G : List ℕ → List ℕ → Type 0) (image : Bor (List ℕ)) (stamp : List ℕ) (user : Uic) (goes_on : Bool) (lines : List (List ℕ)) (line : List ℕ) (s so_far now : Status) (old mid new : Filed)
+pub all_next : (G : HostGives) (image : Bor (List ℕ)) (stamp : List ℕ) (user : Uic) (goes_on : Bool) (lines : List (List ℕ)) (line : List ℕ) (s so_far now : Status) (old mid new : Filed)
     → AreAllDone G image stamp user goes_on lines so_far old mid → GoesOn goes_on s → IsLineDone G image stamp user line s mid new
     → (so_far ≡ status.Done → now ≡ s) → (¬ (so_far ≡ status.Done) → now ≡ so_far) → AreAllDone G image stamp user goes_on (lines ++ line ∷ []) now old new
 all_next G image stamp user goes_on lines line s so_far now old mid new before goes last done fault =
     (before.0 ++ s ∷ [], one_line G image stamp user goes_on lines before.0 line s old mid new before.1 goes last, fault_next before.0 s so_far now before.2 done fault)
 
 -- the line at which a run ends
-pub lines_ended : (G : List ℕ → List ℕ → Type 0) (image : Bor (List ℕ)) (stamp : List ℕ) (user : Uic) (goes_on : Bool) (lines front : List (List ℕ)) (line : List ℕ) (n : ℕ) (s so_far : Status) (old mid : Filed)
+pub lines_ended : (G : HostGives) (image : Bor (List ℕ)) (stamp : List ℕ) (user : Uic) (goes_on : Bool) (lines front : List (List ℕ)) (line : List ℕ) (n : ℕ) (s so_far : Status) (old mid : Filed)
     → front ≡ take n lines → n < length lines → line ≡ get_or lines n line → AreAllDone G image stamp user goes_on front so_far old mid → EndsRun image goes_on line s
     → AreLinesEnded G image stamp user goes_on lines s old
 lines_ended G image stamp user goes_on lines front line n s so_far old mid before low at done ends =

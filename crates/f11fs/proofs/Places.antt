@@ -1,6 +1,7 @@
 -- What was read early: what is taken, and what is added.
 use Rattle.std.proofs.Common.{◌≡◌, ◌-◌, ◌≤◌, ◌∙◌, ℕ, refl, sym, ap, subst, List, [], ◌∷◌, ◌++◌, get_or, slice_get, remove, Option, Some, Result, Ok, Err, IfOk, IfErr, MatchOption, MatchResult, string_bytes, vec_len}
 use Rattle.std.proofs.lemmas.Option.{same_Some, get_or_from_slice_get}
+use Rattle.f11fs.specs.Given.{Bytes, HostGives}
 use Rattle.f11fs.specs.Readings.{AddsReading}
 use Rattle.f11fs.specs.declared.early.Early.{Early}
 use Rattle.f11fs.specs.declared.early.OtherImage.{OtherImage}
@@ -30,10 +31,10 @@ both (Ok b) Given size room left new given few is e = ((given, few, e ∙ ap (λ
 both (Err x) Given size room left new given few is e = (tt, e ∙ ap (λ n. Some n) is)
 
 -- what was read is added
-pub adds : (G : List ℕ → List ℕ → Type 0) (path : List ℕ) (old new : Early) (room left : ℕ) (one : Taken) → old.room ≡ Some room → new.taken.items ≡ old.taken.items ++ one ∷ [] → string_bytes one.path ≡ path
-    → new.images ≡ old.images → IfOk one.bytes (λ bytes. G path bytes.items) → IfOk one.bytes (λ bytes. vec_len bytes ≤ room) → MatchResult one.bytes (λ bytes. left ≡ room - vec_len bytes) (λ _. left ≡ room) → new.room ≡ Some left → AddsReading G path old new
+pub adds : (G : HostGives) (path : List ℕ) (old new : Early) (room left : ℕ) (one : Taken) → old.room ≡ Some room → new.taken.items ≡ old.taken.items ++ one ∷ [] → string_bytes one.path ≡ path
+    → new.images ≡ old.images → IfOk one.bytes (λ bytes. G path (Bytes bytes.items)) → IfOk one.bytes (λ bytes. vec_len bytes ≤ room) → MatchResult one.bytes (λ bytes. left ≡ room - vec_len bytes) (λ _. left ≡ room) → new.room ≡ Some left → AddsReading G path old new
 adds G path old new room left one begins items at others given few is e =
-    let counted = both one.bytes (λ bytes. G path bytes.items) (λ bytes. vec_len bytes) room left new.room given few is e in
+    let counted = both one.bytes (λ bytes. G path (Bytes bytes.items)) (λ bytes. vec_len bytes) room left new.room given few is e in
     subst (λ (r : Option ℕ). MatchOption r (new ≡ old) (λ room. (one : Taken) × (new.taken.items ≡ old.taken.items ++ one ∷ []) × (string_bytes one.path ≡ path) × (new.images ≡ old.images)
-    × IfOk one.bytes (λ bytes. G path bytes.items × (vec_len bytes ≤ room) × (new.room ≡ Some (room - vec_len bytes))) × IfErr one.bytes (λ _. new.room ≡ Some room)))
+    × IfOk one.bytes (λ bytes. G path (Bytes bytes.items) × (vec_len bytes ≤ room) × (new.room ≡ Some (room - vec_len bytes))) × IfErr one.bytes (λ _. new.room ≡ Some room)))
     (sym begins) (one, items, at, others, counted.0, counted.1)

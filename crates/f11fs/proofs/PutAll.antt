@@ -14,10 +14,11 @@ use Rattle.ods_upkeep.specs.Ready.{MayHaveGrown}
 use Rattle.f11fs.specs.Changed.{ArePut, ArePutNext, IsOnePut, hosts_among, path_among}
 use Rattle.f11fs.specs.Dated.{IsHostTime, takes_times}
 use Rattle.f11fs.specs.Forms.{form_said, placing_said}
+use Rattle.f11fs.specs.Given.{Bytes, HostGives}
 use Rattle.f11fs.specs.Readings.{IsLastPart}
 
 -- one file more
-put_more : (G : List ℕ → List ℕ → Type 0) (dated : Bool) (run : List ℕ) (p q r : InPut) (hosts : List (Bor (List ℕ))) (host : Bor (List ℕ)) (bytes : List ℕ) (old mid new : Filed)
+put_more : (G : HostGives) (dated : Bool) (run : List ℕ) (p q r : InPut) (hosts : List (Bor (List ℕ))) (host : Bor (List ℕ)) (bytes : List ℕ) (old mid new : Filed)
     → ArePutNext G dated run p hosts old q mid → IsOnePut G dated run q host.now bytes mid r new → ArePutNext G dated run p (hosts ++ host ∷ []) old r new
 put_more G dated run p q r [] host bytes old mid new before put =
     (bytes, (r, (new, subst (λ (k : InPut). IsOnePut G dated run k host.now bytes old r new) before.0 (subst (λ (f : Filed). IsOnePut G dated run q host.now bytes f r new) before.1 put), (refl, refl))))
@@ -26,24 +27,24 @@ put_more G dated run p q r (x ∷ hosts) host bytes old mid new before put =
     (before.0, (t.0, (t.1.0, t.1.1, put_more G dated run t.0 q r hosts host bytes t.1.0 mid new t.1.2 put)))
 
 -- the next of some files
-pub put_next : (G : List ℕ → List ℕ → Type 0) (dated : Bool) (run : List ℕ) (p q s r : InPut) (stamp : List ℕ) (hosts : List (Bor (List ℕ))) (i : ℕ) (host : Bor (List ℕ)) (bytes items : List ℕ) (old mid new : Filed)
-    → G (get_or hosts i host).now items → bytes ≡ items → s ≡ at_time q stamp → IsHostTime (not dated) run stamp → (name : List ℕ) × IsLastPart (get_or hosts i host).now name × IsHostPut s name bytes mid r new
+pub put_next : (G : HostGives) (dated : Bool) (run : List ℕ) (p q s r : InPut) (stamp : List ℕ) (hosts : List (Bor (List ℕ))) (i : ℕ) (host : Bor (List ℕ)) (bytes items : List ℕ) (old mid new : Filed)
+    → G (get_or hosts i host).now (Bytes items) → bytes ≡ items → s ≡ at_time q stamp → IsHostTime (not dated) run stamp → (name : List ℕ) × IsLastPart (get_or hosts i host).now name × IsHostPut s name bytes mid r new
     → i < length hosts → ArePutNext G dated run p (take i hosts) old q mid → ArePutNext G dated run p (take (i + 1) hosts) old r new
 put_next G dated run p q s r stamp hosts i host bytes items old mid new gives same set time one low before =
     subst (λ (hs : List (Bor (List ℕ))). ArePutNext G dated run p hs old r new) (sym (ap (λ (n : ℕ). take n hosts) (next i) ∙ take-suc hosts i host low))
     (put_more G dated run p q r (take i hosts) (get_or hosts i host) bytes old mid new before
-    (one.0, (stamp, subst (λ (b : List ℕ). G (get_or hosts i host).now b) (sym same) gives, one.1, time, subst (λ (k : InPut). IsHostPut k one.0 bytes mid r new) set one.2)))
+    (one.0, (stamp, subst (λ (b : List ℕ). G (get_or hosts i host).now (Bytes b)) (sym same) gives, one.1, time, subst (λ (k : InPut). IsHostPut k one.0 bytes mid r new) set one.2)))
   where
     next : (n : ℕ) → n + 1 ≡ suc n
     next n = omega arith
 
 -- none is left to be put
-pub put_whole : (G : List ℕ → List ℕ → Type 0) (dated : Bool) (run : List ℕ) (p q : InPut) (hosts : List (Bor (List ℕ))) (i : ℕ) (old new : Filed) → i ≡ length hosts → ArePutNext G dated run p (take i hosts) old q new → ArePutNext G dated run p hosts old q new
+pub put_whole : (G : HostGives) (dated : Bool) (run : List ℕ) (p q : InPut) (hosts : List (Bor (List ℕ))) (i : ℕ) (old new : Filed) → i ≡ length hosts → ArePutNext G dated run p (take i hosts) old q new → ArePutNext G dated run p hosts old q new
 put_whole G dated run p q hosts i old new end put =
     subst (λ (hs : List (Bor (List ℕ))). ArePutNext G dated run p hs old q new) (ap (λ (n : ℕ). take n hosts) end ∙ take-length hosts) put
 
 -- all files
-pub put_all : {A E : Type 0} (G : List ℕ → List ℕ → Type 0) (said dated : Bool) (how : PutWords) (words hosts : List (Bor (List ℕ))) (to : Option (Bor (List ℕ))) (form : PutForm) (placing : Option Placing) (stamp : List ℕ) (p q : InPut) (old ready new : Filed) (r : Result A E)
+pub put_all : {A E : Type 0} (G : HostGives) (said dated : Bool) (how : PutWords) (words hosts : List (Bor (List ℕ))) (to : Option (Bor (List ℕ))) (form : PutForm) (placing : Option Placing) (stamp : List ℕ) (p q : InPut) (old ready new : Filed) (r : Result A E)
     → IsBegun old.image old.layout stamp to (nat_lt 1 (length hosts)) form how.like placing how.replace how.owner p
     → dated ≡ takes_times how said → to ≡ path_among words → hosts ≡ hosts_among words → form ≡ form_said how → placing ≡ placing_said how
     → MayHaveGrown (length hosts) old ready

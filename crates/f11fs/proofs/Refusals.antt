@@ -1,5 +1,5 @@
 -- What is refused ends with the status of a refusal.
-use Rattle.std.proofs.Common.{◌≡◌, ◌⊎◌, ◌∙◌, ℕ, List, Bor, true, ap, subst, sym, inl, inr, Err}
+use Rattle.std.proofs.Common.{◌≡◌, ◌⊎◌, ◌∙◌, ℕ, List, Bor, true, ap, subst, sym, inl, inr, Result, Ok, Err, IfOk}
 use Rattle.ods_records.specs.declared.faults.TextFault.{TextFault}
 use Rattle.ods_records.specs.declared.faults.TextFault.TheVariants as text
 use Rattle.ods_request.specs.declared.refusals.Refusal.{Refusal}
@@ -133,3 +133,9 @@ pub unread_refusal : (path : Bor (List ℕ)) (room : ℕ) (end : Stop) → IsToo
 unread_refusal path room end (inl (inl large)) = subst (λ x. IsRefusal x) (sym large.1) tt
 unread_refusal path room end (inl (inr large)) = subst (λ x. IsRefusal x) (sym large) tt
 unread_refusal path room end (inr unread) = subst (λ x. IsRefusal x) (sym unread.1) tt
+
+-- a command ends as it was run, or for the reason for which it stopped
+pub ended : {W A : Type 0} (Ran : W → A → Status → Type 0) (words : W) (asked : A) (done : Result Status Stop) (s : Status) → IfOk done (λ ends. Ran words asked ends) → EndsWith done s
+    → Ran words asked s ⊎ ((end : Stop) × StopsWith end s)
+ended Ran words asked (Ok ends) s ran is = inl (subst (λ e. Ran words asked e) (sym is) ran)
+ended Ran words asked (Err end) s ran is = inr (end, is)

@@ -10,6 +10,7 @@ use Rattle.ods_space.specs.Layout.{VolumeLayout}
 use Rattle.ods_shell.specs.declared.status.Status.{Status}
 use Rattle.std.specs.Str.Lines.{lines}
 use Rattle.f11fs.specs.Changed.{AreAllDone, IsChanged}
+use Rattle.f11fs.specs.Given.{HostGives}
 use Rattle.f11fs.specs.Mended.{keeper}
 use Rattle.f11fs.specs.Stores.{GainsNoCopy, ImageStays, IsMadeAndSaved, IsSavedIn, IsTimeFor, MakesChange, MakesLines}
 
@@ -58,7 +59,7 @@ told_by has copies tells (Some x) Is old mid new kept same stays none asked =
     (subst (λ s. ImageStays (has old) (has s)) (sym same) stays, subst (λ s. GainsNoCopy (copies old) (copies s)) (sym same) none)
 
 -- the change of a volume for the user and at the time of the words
-pub change_made : (G : List ℕ → List ℕ → Type 0) (change : Change) (words : Words) (before : List (List ℕ)) (layout : VolumeLayout) (stamp : List ℕ) (user : Uic) (left : Filed)
+pub change_made : (G : HostGives) (change : Change) (words : Words) (before : List (List ℕ)) (layout : VolumeLayout) (stamp : List ℕ) (user : Uic) (left : Filed)
     → user ≡ unwrap_or words.user keeper → IsTimeFor words stamp → IsChanged G change words.paths.items stamp (record { image = before; layout = layout; user = user }) left → MakesChange G change words before left.image
 change_made G change words before layout stamp user left for time changed =
     (layout, stamp, left, time, subst (λ (u : Uic). IsChanged G change words.paths.items stamp (record { image = before; layout = layout; user = u }) left) for changed, refl)
@@ -75,7 +76,7 @@ kept_either has Makes out true a copies mid new stays same saved = inl (subst (�
 kept_either has Makes out false a copies mid new stays same saved = kept_saved Makes out a (has new) copies (saved refl)
 
 -- what all lines make of a volume for the user and at the time of the words
-pub lines_made : (G : List ℕ → List ℕ → Type 0) (goes_on : Bool) (words : Words) (text : List ℕ) (before : List (List ℕ)) (layout : VolumeLayout) (stamp : List ℕ) (user : Uic) (s : Status) (left : Filed)
+pub lines_made : (G : HostGives) (goes_on : Bool) (words : Words) (text : List ℕ) (before : List (List ℕ)) (layout : VolumeLayout) (stamp : List ℕ) (user : Uic) (s : Status) (left : Filed)
     → user ≡ unwrap_or words.user keeper → IsTimeFor words stamp → AreAllDone G words.image stamp user goes_on (lines text) s (record { image = before; layout = layout; user = user }) left
     → MakesLines G goes_on words text before left.image
 lines_made G goes_on words text before layout stamp user s left for time done =

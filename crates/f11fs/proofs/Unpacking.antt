@@ -12,6 +12,7 @@ use Rattle.ods_upkeep.specs.Ready.{MayHaveGrown}
 use Rattle.ods_upkeep.specs.declared.giving.Access.{Access}
 use Rattle.ods_untar.specs.declared.told.Told.{Told}
 use Rattle.ods_untar.specs.declared.wanted.Wanted.{Wanted}
+use Rattle.f11fs.specs.Given.{Bytes, HostGives}
 use Rattle.f11fs.specs.Unpacked.{ArePutFrom, AreUntarred, IsAccessOf, IsDirectoryPut, IsDue, IsFilePut, IsPut, archive_among, directory_among, has_access, is_directory}
 
 -- these lists are one behind the other, and what holds of the second
@@ -90,8 +91,8 @@ put_given said dir stamp ws old filled new none due given (Ok u) empty put same 
     (put.0, filled, put.2, subst (λ l. GetTheirs l filled new) (same ∙ whole) gets)
 
 -- all that an archive asks for is put
-pub all_untarred : {E : Type 0} (G : List ℕ → List ℕ → Type 0) (said zoned : Bool) (words : List (Bor (List ℕ))) (dir : Option (Bor (List ℕ))) (stamp bytes : List ℕ) (wanted : List Wanted) (old ready new : Filed) (r : Result ⊤ E)
-    → said ≡ not zoned → dir ≡ directory_among words → G (archive_among words) bytes → AsksFor bytes wanted → MayHaveGrown (length wanted) old ready
+pub all_untarred : {E : Type 0} (G : HostGives) (said zoned : Bool) (words : List (Bor (List ℕ))) (dir : Option (Bor (List ℕ))) (stamp bytes : List ℕ) (wanted : List Wanted) (old ready new : Filed) (r : Result ⊤ E)
+    → said ≡ not zoned → dir ≡ directory_among words → G (archive_among words) (Bytes bytes) → AsksFor bytes wanted → MayHaveGrown (length wanted) old ready
     → OnOk r ((due : List Access) × (filled : Filed) × ArePutFrom (not zoned) dir stamp wanted due ready filled × GetTheirs due filled new) → OnOk r (AreUntarred G said words stamp old new)
 all_untarred G said zoned words dir stamp bytes wanted old ready new (Err f) where_zone below gives asks made put = tt
 all_untarred G said zoned words dir stamp bytes wanted old ready new (Ok u) where_zone below gives asks made put = record {

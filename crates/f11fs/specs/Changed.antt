@@ -38,6 +38,7 @@ use Rattle.ods_shell.specs.declared.facts.Facts.{Facts}
 use Rattle.f11fs.specs.CopiedOver.{CopiesBelow}
 use Rattle.f11fs.specs.Dated.{IsHostTime, takes_times}
 use Rattle.f11fs.specs.Forms.{form_said, placing_for, placing_said}
+use Rattle.f11fs.specs.Given.{Bytes, HostGives}
 use Rattle.f11fs.specs.TreePut.{IsTreePut}
 use Rattle.f11fs.specs.Unpacked.{AreUntarred}
 use Rattle.f11fs.specs.Readings.{IsLastPart}
@@ -58,19 +59,19 @@ path_among words = if nat_lt 1 (length words) then slice_get words (length words
 
 -- A host file that gives these bytes was put, with the state before. Its name is the part after the last slash of its path. It has the time of the
 -- run, or if it is dated the time of its host file.
-abbrev pub IsOnePut : (List ℕ → List ℕ → Type 0) → Bool → List ℕ → InPut → List ℕ → List ℕ → Filed → InPut → Filed → Type 0
+abbrev pub IsOnePut : HostGives → Bool → List ℕ → InPut → List ℕ → List ℕ → Filed → InPut → Filed → Type 0
 IsOnePut Gives dated run p host bytes old q new =
-    (name : List ℕ) × ((stamp : List ℕ) × Gives host bytes × IsLastPart host name × IsHostTime (not dated) run stamp × IsHostPut (at_time p stamp) name bytes old q new)
+    (name : List ℕ) × ((stamp : List ℕ) × Gives host (Bytes bytes) × IsLastPart host name × IsHostTime (not dated) run stamp × IsHostPut (at_time p stamp) name bytes old q new)
 
 -- Host files were put, in order.
-abbrev pub ArePutNext : (List ℕ → List ℕ → Type 0) → Bool → List ℕ → InPut → List (Bor (List ℕ)) → Filed → InPut → Filed → Type 0
+abbrev pub ArePutNext : HostGives → Bool → List ℕ → InPut → List (Bor (List ℕ)) → Filed → InPut → Filed → Type 0
 ArePutNext Gives dated run p [] old q new = (q ≡ p) × (new ≡ old)
 ArePutNext Gives dated run p (host ∷ hosts) old q new =
     (bytes : List ℕ) × ((r : InPut) × ((mid : Filed) × IsOnePut Gives dated run p host.now bytes old r mid × ArePutNext Gives dated run r hosts mid q new))
 
 -- Each host file that the words name was put at the specified target, in the specified form, at the specified time and for the specified owner;
 -- `said` is whether the words specify a time. Nothing else was done.
-pub record ArePut (Gives : List ℕ → List ℕ → Type 0) (said : Bool) (how : PutWords) (words : List (Bor (List ℕ))) (stamp : List ℕ) (old new : Filed) : Type 0 where
+pub record ArePut (Gives : HostGives) (said : Bool) (how : PutWords) (words : List (Bor (List ℕ))) (stamp : List ℕ) (old new : Filed) : Type 0 where
   -- what is looked up before the first
   pub begun : InPut
   pub begins : IsBegun old.image old.layout stamp (path_among words) (nat_lt 1 (length (hosts_among words))) (form_said how) how.like (placing_said how) how.replace how.owner begun
@@ -80,7 +81,7 @@ pub record ArePut (Gives : List ℕ → List ℕ → Type 0) (said : Bool) (how 
   pub put : ArePutNext Gives (takes_times how said) stamp begun (hosts_among words) ready known new
 
 -- what a put leaves: a tree of a folder, if it is requested, otherwise host files one by one
-abbrev pub PutsBelow : (List ℕ → List ℕ → Type 0) → Bool → Bool → PutWords → List (Bor (List ℕ)) → List ℕ → Filed → Filed → Type 0
+abbrev pub PutsBelow : HostGives → Bool → Bool → PutWords → List (Bor (List ℕ)) → List ℕ → Filed → Filed → Type 0
 PutsBelow Gives true said how words stamp old new = IsTreePut Gives said how words stamp old new
 PutsBelow Gives false said how words stamp old new = ArePut Gives said how words stamp old new
 
@@ -101,11 +102,11 @@ abbrev pub CutsFirst : List (Bor (List ℕ)) → ℕ → Filed → Filed → Typ
 CutsFirst words bytes old new = (path : Bor (List ℕ)) × ((others : List (Bor (List ℕ))) × (words ≡ path ∷ others) × IsTruncated path.now bytes old new)
 
 -- past the end of the file that the path names are the bytes that a host file gives
-abbrev pub AppendsTo : (List ℕ → List ℕ → Type 0) → List ℕ → List ℕ → Filed → Filed → Type 0
-AppendsTo Gives path host old new = (facts : Facts) × ((bytes : List ℕ) × Gives host bytes × IsOpened old.image old.layout path facts × IsGrown facts bytes old new)
+abbrev pub AppendsTo : HostGives → List ℕ → List ℕ → Filed → Filed → Type 0
+AppendsTo Gives path host old new = (facts : Facts) × ((bytes : List ℕ) × Gives host (Bytes bytes) × IsOpened old.image old.layout path facts × IsGrown facts bytes old new)
 
 -- the first word is the path, and the second the host file
-abbrev pub AppendsToFirst : (List ℕ → List ℕ → Type 0) → List (Bor (List ℕ)) → Filed → Filed → Type 0
+abbrev pub AppendsToFirst : HostGives → List (Bor (List ℕ)) → Filed → Filed → Type 0
 AppendsToFirst Gives words old new = (path : Bor (List ℕ)) × ((host : Bor (List ℕ)) × (slice_get words 0 ≡ Some path) × (slice_get words 1 ≡ Some host) × AppendsTo Gives path.now host.now old new)
 
 -- the text is a label, and the volume has got it
@@ -116,11 +117,11 @@ IsLabelled text old new = IsTrue (is_label_text text) × HasGotLabel old (label_
 abbrev pub IsNoLabel : List ℕ → Type 0
 IsNoLabel text = ¬ IsTrue (is_label_text text)
 
--- What a change leaves that is made whole, by the words after its name, by the time of new files, and by the bytes that each host file gives.
-abbrev pub IsChanged : (List ℕ → List ℕ → Type 0) → Change → List (Bor (List ℕ)) → List ℕ → Filed → Filed → Type 0
+-- What a change leaves that is made whole, by the words after its name, by the time of new files, and by what the host gives.
+abbrev pub IsChanged : HostGives → Change → List (Bor (List ℕ)) → List ℕ → Filed → Filed → Type 0
 IsChanged Gives (change.Put how) words stamp old new = (said : Bool) × PutsBelow Gives how.below said how words stamp old new
 IsChanged Gives change.Untar words stamp old new = (said : Bool) × AreUntarred Gives said words stamp old new
-IsChanged Gives (change.CpFrom how) words stamp old new = (said : Bool) × CopiesBelow how.below said how.contiguous how.next how.owners words stamp old new
+IsChanged Gives (change.CpFrom how) words stamp old new = (said : Bool) × CopiesBelow Gives how.below said how words stamp old new
 IsChanged Gives (change.Cp contiguous) words stamp old new = CopiesToLast (placing_for contiguous) words stamp old new
 IsChanged Gives change.Mv words stamp old new = MovesToLast words old new
 IsChanged Gives (change.Rm entry_alone newest) words stamp old new = IsRemoved entry_alone newest words old new
@@ -164,11 +165,11 @@ abbrev pub HasSameVolume : Filed → Filed → Type 0
 HasSameVolume old new = (new.image ≡ old.image) × (new.layout ≡ old.layout)
 
 -- what a command leaves of a usable volume: that volume; or, if it is done and requests a change, what the change leaves
-abbrev pub IsDoneNow : (List ℕ → List ℕ → Type 0) → Action → List (Bor (List ℕ)) → List ℕ → Status → Filed → Filed → Type 0
+abbrev pub IsDoneNow : HostGives → Action → List (Bor (List ℕ)) → List ℕ → Status → Filed → Filed → Type 0
 IsDoneNow Gives asked words stamp s old new = (new ≡ old) ⊎ ((c : Change) × (asked ≡ action.Change c) × (s ≡ status.Done) × IsChanged Gives c words stamp old new)
 
 -- What a command leaves of a usable volume: the same volume; or, if it is done and requests a change, what that leaves for this user.
-abbrev pub IsDoneBy : (List ℕ → List ℕ → Type 0) → Action → List (Bor (List ℕ)) → List ℕ → Uic → Status → Filed → Filed → Type 0
+abbrev pub IsDoneBy : HostGives → Action → List (Bor (List ℕ)) → List ℕ → Uic → Status → Filed → Filed → Type 0
 IsDoneBy Gives asked words stamp user s old new =
     HasSameVolume old new
     ⊎ ((c : Change) × (asked ≡ action.Change c) × (s ≡ status.Done) × IsChanged Gives c words stamp (for_another old user) new)
@@ -179,7 +180,7 @@ IsCommandOf image line own = (words : List (List ℕ)) × (words_in line ≡ Som
 
 -- What a line leaves of a usable volume: the same volume; or what its command leaves, with the stamp and for the user that the line specifies, or
 -- otherwise with these.
-abbrev pub IsLineDone : (List ℕ → List ℕ → Type 0) → Bor (List ℕ) → List ℕ → Uic → List ℕ → Status → Filed → Filed → Type 0
+abbrev pub IsLineDone : HostGives → Bor (List ℕ) → List ℕ → Uic → List ℕ → Status → Filed → Filed → Type 0
 IsLineDone Gives image stamp user line s old new =
     HasSameVolume old new
     ⊎ ((own : Words) × IsCommandOf image line own × IsDoneBy Gives own.action own.paths.items (unwrap_or own.stamp stamp) (unwrap_or own.user user) s old new)
@@ -210,13 +211,13 @@ abbrev pub GoesOn : Bool → Status → Type 0
 GoesOn goes_on s = (goes_on ≡ true) ⊎ (is_refused s ≡ false)
 
 -- What these lines leave, in order, and how each ends. The run goes on after each.
-abbrev pub AreLinesDone : (List ℕ → List ℕ → Type 0) → Bor (List ℕ) → List ℕ → Uic → Bool → List (List ℕ) → List Status → Filed → Filed → Type 0
+abbrev pub AreLinesDone : HostGives → Bor (List ℕ) → List ℕ → Uic → Bool → List (List ℕ) → List Status → Filed → Filed → Type 0
 AreLinesDone Gives image stamp user goes_on [] statuses old new = (statuses ≡ []) × (new ≡ old)
 AreLinesDone Gives image stamp user goes_on (line ∷ lines) statuses old new = (s : Status) × (later : List Status) × (mid : Filed) × (statuses ≡ s ∷ later) × GoesOn goes_on s
     × IsLineDone Gives image stamp user line s old mid × AreLinesDone Gives image stamp user goes_on lines later mid new
 
 -- these lines are done, and the run has the status of the first that is not done
-abbrev pub AreAllDone : (List ℕ → List ℕ → Type 0) → Bor (List ℕ) → List ℕ → Uic → Bool → List (List ℕ) → Status → Filed → Filed → Type 0
+abbrev pub AreAllDone : HostGives → Bor (List ℕ) → List ℕ → Uic → Bool → List (List ℕ) → Status → Filed → Filed → Type 0
 AreAllDone Gives image stamp user goes_on lines s old new = (statuses : List Status) × AreLinesDone Gives image stamp user goes_on lines statuses old new × (s ≡ first_fault statuses)
 
 -- the command requests a change
@@ -233,7 +234,7 @@ abbrev pub EndsRun : Bor (List ℕ) → Bool → List ℕ → Status → Type 0
 EndsRun image goes_on line s = (is_refused s ≡ true) × ((goes_on ≡ false) ⊎ AsksChange image line)
 
 -- The lines before one are done, and that one ends the run with its status.
-abbrev pub AreLinesEnded : (List ℕ → List ℕ → Type 0) → Bor (List ℕ) → List ℕ → Uic → Bool → List (List ℕ) → Status → Filed → Type 0
+abbrev pub AreLinesEnded : HostGives → Bor (List ℕ) → List ℕ → Uic → Bool → List (List ℕ) → Status → Filed → Type 0
 AreLinesEnded Gives image stamp user goes_on lines s old =
     (front : List (List ℕ)) × (line : List ℕ) × (behind : List (List ℕ)) × (statuses : List Status) × (mid : Filed) × (lines ≡ front ++ line ∷ behind)
     × AreLinesDone Gives image stamp user goes_on front statuses old mid × EndsRun image goes_on line s

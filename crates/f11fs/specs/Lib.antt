@@ -2,6 +2,7 @@ pub mod Changed
 pub mod CopiedOver
 pub mod Dated
 pub mod Forms
+pub mod Given
 pub mod Laws
 pub mod Looks
 pub mod Mended

@@ -1,6 +1,6 @@
 -- Host files: their names, and the bytes read from them.
 use Rattle.std.specs.Prelude.{◌≡◌, ◌≢◌, ◌⊎◌, ℕ, List, ◌∷◌, ◌++◌, [], Option, Some, MatchOption, Bool, ◌||◌, true, false, IfOk, IfErr, ◌-◌, ◌≤◌, vec_len, codes, drop, if◌then◌else◌, nat_eq, string_bytes}
-use Rattle.std.specs.List.{All, list_any, position, starts_with}
+use Rattle.std.specs.List.{list_any, position, starts_with}
 use Rattle.std.specs.Str.{bytes_eq}
 use Rattle.std.specs.Borrow.{Bor}
 use Rattle.fs_host.specs.Names.{LacksSlash}
@@ -14,6 +14,7 @@ use Rattle.fs_words.specs.declared.actions.Action.TheVariants as action
 use Rattle.fs_words.specs.declared.actions.FromWords.{FromWords}
 use Rattle.fs_words.specs.declared.actions.PutWords.{PutWords}
 use Rattle.fs_words.specs.declared.actions.Change.TheVariants as change
+use Rattle.f11fs.specs.Given.{Bytes, HostGives, Volume}
 use Rattle.f11fs.specs.declared.early.Early.{Early}
 use Rattle.f11fs.specs.declared.early.OtherImage.{OtherImage}
 use Rattle.f11fs.specs.declared.early.Taken.{Taken}
@@ -35,32 +36,30 @@ abbrev pub ReadsNothing : Action → Type 0
 ReadsNothing asked =
     ((how : PutWords) → asked ≢ action.Change (change.Put how)) × (asked ≢ action.Change change.Append) × (asked ≢ action.Change change.Untar) × ((how : FromWords) → asked ≢ action.Change (change.CpFrom how))
 
--- each of these files gives the bytes that were read early, if reading it did not fail
-abbrev pub AreTaken : (List ℕ → List ℕ → Type 0) → List Taken → Type 0
-AreTaken Gives taken = All (λ one. IfOk one.bytes (λ bytes. Gives (string_bytes one.path) bytes.items)) taken
-
 -- A file was read to the end, after the files that were read before, which reduces the room for later reads. If there was no room, nothing was read.
-abbrev pub AddsReading : (List ℕ → List ℕ → Type 0) → List ℕ → Early → Early → Type 0
+abbrev pub AddsReading : HostGives → List ℕ → Early → Early → Type 0
 AddsReading Gives path old new = MatchOption old.room (new ≡ old) (λ room.
     (one : Taken) × (new.taken.items ≡ old.taken.items ++ one ∷ []) × (string_bytes one.path ≡ path) × (new.images ≡ old.images)
-    × IfOk one.bytes (λ bytes. Gives path bytes.items × (vec_len bytes ≤ room) × (new.room ≡ Some (room - vec_len bytes))) × IfErr one.bytes (λ _. new.room ≡ Some room))
+    × IfOk one.bytes (λ bytes. Gives path (Bytes bytes.items) × (vec_len bytes ≤ room) × (new.room ≡ Some (room - vec_len bytes))) × IfErr one.bytes (λ _. new.room ≡ Some room))
 
 -- Such a file was read, or nothing was.
-abbrev pub MayAddReading : (List ℕ → List ℕ → Type 0) → List ℕ → Early → Early → Type 0
+abbrev pub MayAddReading : HostGives → List ℕ → Early → Early → Type 0
 MayAddReading Gives path old new = (new ≡ old) ⊎ AddsReading Gives path old new
 
 -- the same for each of these paths, in order
-abbrev pub MayAddReadings : (List ℕ → List ℕ → Type 0) → List (Bor (List ℕ)) → Early → Early → Type 0
+abbrev pub MayAddReadings : HostGives → List (Bor (List ℕ)) → Early → Early → Type 0
 MayAddReadings Gives [] old new = new ≡ old
 MayAddReadings Gives (path ∷ paths) old new = (mid : Early) × MayAddReading Gives path.now old mid × MayAddReadings Gives paths mid new
 
 -- the other image of a cp was read from this path, after the images that were read before, and nothing else was read
-abbrev pub AddsImage : List ℕ → Early → Early → Type 0
-AddsImage path old new = (one : OtherImage) × (new.images.items ≡ old.images.items ++ one ∷ []) × (string_bytes one.path ≡ path) × (new.taken ≡ old.taken) × (new.room ≡ old.room)
+abbrev pub AddsImage : HostGives → List ℕ → Early → Early → Type 0
+AddsImage Gives path old new =
+    (one : OtherImage) × (new.images.items ≡ old.images.items ++ one ∷ []) × (string_bytes one.path ≡ path)
+    × IfOk one.opened (λ opened. Gives path (Volume opened.0)) × (new.taken ≡ old.taken) × (new.room ≡ old.room)
 
 -- It was read, or nothing was.
-abbrev pub MayAddImage : List ℕ → Early → Early → Type 0
-MayAddImage path old new = (new ≡ old) ⊎ AddsImage path old new
+abbrev pub MayAddImage : HostGives → List ℕ → Early → Early → Type 0
+MayAddImage Gives path old new = (new ≡ old) ⊎ AddsImage Gives path old new
 
 -- there is no room for the bytes of this file
 abbrev pub IsTooLarge : Bor (List ℕ) → ℕ → Stop → Type 0

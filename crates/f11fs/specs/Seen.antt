@@ -1,4 +1,4 @@
--- Which commands print as they go on.
+-- Which commands print as they go on, and which only read a volume.
 use Rattle.std.specs.Prelude.{Bool, true, false}
 use Rattle.fs_words.specs.declared.actions.Action.{Action}
 use Rattle.fs_words.specs.declared.actions.Action.TheVariants as action
@@ -22,3 +22,23 @@ prints_names (action.Repair kinds into) = false
 prints_names (action.Init blocks files label order) = false
 prints_names (action.Convert order alone) = false
 prints_names (action.Commands file keep_going) = false
+
+-- the command reads a volume and leaves it unchanged
+abbrev pub only_reads : Action → Bool
+only_reads (action.Ls long ids below) = true
+only_reads (action.Find lost deleted long) = true
+only_reads action.Stat = true
+only_reads (action.Cat wanted) = true
+only_reads (action.Get wanted target below deleted partial dated) = true
+only_reads (action.Tar text) = true
+only_reads action.Df = true
+only_reads (action.Du top) = true
+only_reads (action.Cmp all) = true
+only_reads action.Info = false
+only_reads (action.Check all) = false
+only_reads (action.Rescue text scan partial) = false
+only_reads (action.Change change) = false
+only_reads (action.Repair kinds into) = false
+only_reads (action.Init blocks files label order) = false
+only_reads (action.Convert order alone) = false
+only_reads (action.Commands file keep_going) = false

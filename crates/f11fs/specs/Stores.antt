@@ -17,6 +17,7 @@ use Rattle.ods_shell.specs.declared.status.Status.{Status}
 use Rattle.ods_space.specs.Layout.{VolumeLayout}
 use Rattle.std.specs.Str.Lines.{lines}
 use Rattle.f11fs.specs.Changed.{AreAllDone, AreLinesEnded, IsChanged}
+use Rattle.f11fs.specs.Given.{HostGives}
 use Rattle.f11fs.specs.Mended.{IsMended, keeper}
 
 -- the image keeps its blocks
@@ -45,7 +46,7 @@ abbrev pub volume_for : Words → List (List ℕ) → VolumeLayout → Filed
 volume_for words blocks layout = record { image = blocks; layout = layout; user = unwrap_or words.user keeper }
 
 -- the change that the words request makes these blocks of the former ones
-abbrev pub MakesChange : (List ℕ → List ℕ → Type 0) → Change → Words → List (List ℕ) → List (List ℕ) → Type 0
+abbrev pub MakesChange : HostGives → Change → Words → List (List ℕ) → List (List ℕ) → Type 0
 MakesChange Gives change words before after = (layout : VolumeLayout) × (stamp : List ℕ) × (left : Filed)
     × IsTimeFor words stamp × IsChanged Gives change words.paths.items stamp (volume_for words before layout) left × (after ≡ left.image)
 
@@ -54,7 +55,7 @@ abbrev pub MakesRepairs : Repairs → Words → Bor (List ℕ) → List (List �
 MakesRepairs kinds words into before after = (stamp : List ℕ) × IsTimeFor words stamp × IsMended kinds stamp into before after
 
 -- all lines of a text make these blocks of the former ones
-abbrev pub MakesLines : (List ℕ → List ℕ → Type 0) → Bool → Words → List ℕ → List (List ℕ) → List (List ℕ) → Type 0
+abbrev pub MakesLines : HostGives → Bool → Words → List ℕ → List (List ℕ) → List (List ℕ) → Type 0
 MakesLines Gives goes_on words text before after = (layout : VolumeLayout) × (stamp : List ℕ) × (s : Status) × (left : Filed)
     × IsTimeFor words stamp × AreAllDone Gives words.image stamp (unwrap_or words.user keeper) goes_on (lines text) s (volume_for words before layout) left
     × (after ≡ left.image)

@@ -21,6 +21,7 @@ use Rattle.ods_upkeep.specs.declared.giving.Access.{Access}
 use Rattle.ods_upkeep.specs.declared.untarring.Packed.{Packed}
 use Rattle.ods_upkeep.specs.declared.untarring_directories.PackedDirectory.{PackedDirectory}
 use Rattle.f11fs.specs.Dated.{IsTimeOf}
+use Rattle.f11fs.specs.Given.{Bytes, HostGives}
 
 -- the first word is the archive; without words it is standard input
 abbrev pub archive_among : List (Bor (List ℕ)) → List ℕ
@@ -105,9 +106,9 @@ ArePutFrom said directory stamp (w ∷ wanted) due old new =
 
 -- Each file and directory of the archive that the words name was put, below the directory that they specify. Before the first INDEXF.SYS may get the headers that it lacks for all of them. After the last each directory that was created receives the owner and the protection
 -- in its records. Nothing else was done.
-pub record AreUntarred (Gives : List ℕ → List ℕ → Type 0) (said : Bool) (words : List (Bor (List ℕ))) (stamp : List ℕ) (old new : Filed) : Type 0 where
+pub record AreUntarred (Gives : HostGives) (said : Bool) (words : List (Bor (List ℕ))) (stamp : List ℕ) (old new : Filed) : Type 0 where
   pub bytes : List ℕ
-  pub given_bytes : Gives (archive_among words) bytes
+  pub given_bytes : Gives (archive_among words) (Bytes bytes)
   pub wanted : List Wanted
   pub asked : AsksFor bytes wanted
   pub ready : Filed

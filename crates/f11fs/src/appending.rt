@@ -3,12 +3,12 @@ ghost use Rattle.std.specs.Prelude.{◌≡◌, IfErr, OnOk, slice_get};
 ghost use Rattle.ods_filing.specs.Led.{IsLed};
 ghost use Rattle.ods_upkeep.specs.Appended.{IsGrown};
 ghost use Rattle.ods_upkeep.specs.Kinds.{Appends as Asks};
-ghost use Rattle.f11fs.specs.{Changed.AppendsTo, Changed.AppendsToFirst, Changed.IsRefusal, Readings.AreTaken};
+ghost use Rattle.f11fs.specs.{Changed.AppendsTo, Changed.AppendsToFirst, Changed.IsRefusal, Given.AreTaken};
 
-use crate::changing::{stop_failed, stop_unfound};
 use crate::early::Early;
 use crate::host::Host;
 use crate::putting::host_bytes;
+use crate::refusing::{stop_failed, stop_unfound};
 use fs_host::Shown;
 use fs_reads::Stop;
 use fs_words::Words;
@@ -24,8 +24,8 @@ pub(crate) fn append<'a, R: Host>(
     words: &Words<'a>,
     early: &mut Early,
 ) -> Result<(), Stop<'a>>
-    requires { AreTaken (R.gives rt.now) early.old.taken.items }
-    ensures taken { AreTaken (R.gives rt.now) early.new.taken.items }
+    requires { AreTaken (R.gives rt.now) early.old }
+    ensures taken { AreTaken (R.gives rt.now) early.new }
     ensures done { OnOk result (AppendsToFirst (R.gives rt.now) words.now.paths.items filing.old filing.new) }
     ensures refused { IfErr result IsRefusal }
     ensures led { IsLed Asks filing.old filing.new }
@@ -49,8 +49,8 @@ fn append_to<'a, R: Host>(
     quiet: bool,
     early: &mut Early,
 ) -> Result<(), Stop<'a>>
-    requires { AreTaken (R.gives rt.now) early.old.taken.items }
-    ensures taken { AreTaken (R.gives rt.now) early.new.taken.items }
+    requires { AreTaken (R.gives rt.now) early.old }
+    ensures taken { AreTaken (R.gives rt.now) early.new }
     ensures done { OnOk result (AppendsTo (R.gives rt.now) path.now host.entry.now filing.old filing.new) }
     ensures refused { IfErr result IsRefusal }
     ensures led { IsLed Asks filing.old filing.new }

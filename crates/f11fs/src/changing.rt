@@ -1,12 +1,11 @@
 //! The commands that change a volume: put, cp, mv, rm, purge, mkdir, rmdir, truncate, append, chmod, chown and label.
-ghost use Rattle.std.specs.Prelude.{◌≡◌, ◌⊎◌, ◌&&◌, ◌↔◌, true, false, None, IfErr, IfOk, IfSome, IsOk, IsSomeAnd, IsTrue, MatchOption, OnErr, OnOk, is_some, length, not, unwrap_or};
+ghost use Rattle.std.specs.Prelude.{◌≡◌, ◌⊎◌, ◌&&◌, ◌↔◌, true, false, None, IfErr, IfOk, IfSome, IsSomeAnd, IsTrue, MatchOption, OnErr, OnOk, is_some, length, not, unwrap_or};
 ghost use Rattle.fs_host.specs.{Found.SaysShort, Times.IsStampOfLocal};
 ghost use Rattle.ods_shell.specs.declared.status.Status.{Status as Code};
-ghost use Rattle.ods_upkeep.specs.Pieces.{HasStatus};
-ghost use Rattle.fs_reads.specs.{Ends.StopsWith, Volumes.LacksBlocks};
+ghost use Rattle.fs_reads.specs.Volumes.{LacksBlocks};
 ghost use Rattle.fs_reads.specs.declared.stop.Stop.{Stop as End};
 ghost use Rattle.fs_reads.specs.declared.stop.WordFault.{WordFault as AWordFault};
-ghost use Rattle.f11fs.specs.{Changed.IsChanged, Changed.IsLabelled, Changed.IsNoLabel, Changed.IsRefusal, Changed.KeepsTo, Changed.MakesAll, Readings.AreTaken, Saved.EndsSaved, Saved.IsNotLocked, Saved.IsNotRead, Saved.IsNotSaved, Saved.IsSavedStatus, Saved.IsWrittenTo, Stores.GainsNoCopy, Stores.ImageStays, Stores.IsMadeAndSaved, Stores.IsSavedIn, Stores.MakesChange};
+ghost use Rattle.f11fs.specs.{Changed.IsChanged, Changed.IsLabelled, Changed.IsNoLabel, Changed.IsRefusal, Changed.KeepsTo, Changed.MakesAll, Given.AreTaken, Saved.EndsSaved, Saved.IsNotLocked, Saved.IsNotRead, Saved.IsNotSaved, Saved.IsSavedStatus, Saved.IsWrittenTo, Stores.GainsNoCopy, Stores.ImageStays, Stores.IsMadeAndSaved, Stores.IsSavedIn, Stores.MakesChange};
 
 use crate::appending::append;
 use crate::copying_from::copy_from_image;
@@ -15,14 +14,14 @@ use crate::host::Host;
 use crate::orders::layers_of;
 use crate::putting::placing_for;
 use crate::putting_tree::put_files;
+use crate::refusing::{end_change, stop_failed};
 use crate::store::{OnHost, Store};
 use crate::telling::plan_text;
 use crate::truncating::truncate;
 use crate::untarring::untar;
 use fs_host::{Extent, Shown, Unfinished, stamp_of_now};
 use fs_reads::{
-    Stop, WordFault, image_of, lacks_blocks, path_elsewhere, say_extent, send, stop_about,
-    stop_at_own_output, volume_of,
+    Stop, WordFault, image_of, lacks_blocks, say_extent, send, stop_at_own_output, volume_of,
 };
 use fs_words::{Change, Saving, Words};
 use ods_base::{Image, Uic};
@@ -30,10 +29,10 @@ use ods_filing::Filing;
 use ods_init::Label;
 use ods_mount::Mounted;
 use ods_request::Stamp;
-use ods_shell::{PathFault, Status};
+use ods_shell::Status;
 use ods_upkeep::{
-    Failure, Placing, Removal, Why, copy_files, give_owner, give_protection, is_below_another,
-    make_directories, make_ready, move_names, purge_files, remove_directories, remove_files,
+    Placing, Removal, copy_files, give_owner, give_protection, is_below_another, make_directories,
+    make_ready, move_names, purge_files, remove_directories, remove_files,
 };
 use std::alloc::{AllocError, Global};
 
@@ -67,7 +66,7 @@ fn change_store<'a, R: Host, S: Store>(
     change: Change<'a>,
     early: &mut Early,
 ) -> Result<Status, Stop<'a>>
-    requires { AreTaken (R.gives rt.now) early.old.taken.items }
+    requires { AreTaken (R.gives rt.now) early.old }
     ensures status { IfOk result IsSavedStatus }
     // What is only printed is not saved.
     ensures told { words.now.saving.only_tells ≡ true → ImageStays (S.has store.old) (S.has store.new) × GainsNoCopy (S.has_copy store.old) (S.has_copy store.new) }
@@ -93,7 +92,7 @@ fn changed<'a, R: Host>(
     change: Change<'a>,
     early: &mut Early,
 ) -> Result<Filing, Stop<'a>>
-    requires { AreTaken (R.gives rt.now) early.old.taken.items }
+    requires { AreTaken (R.gives rt.now) early.old }
     ensures { IfOk result (IsChanged (R.gives rt.now) change.entry words.now.paths.items asker.stamp (record { image = volume.image; layout = volume.layout; user = asker.user })) }
 {
     let mut filing = Filing::new(rt.alloc(), volume, asker.user)?;
@@ -346,8 +345,8 @@ pub(crate) fn change_volume<'a, R: Host>(
     change: Change<'a>,
     early: &mut Early,
 ) -> Result<(), Stop<'a>>
-    requires { AreTaken (R.gives rt.now) early.old.taken.items }
-    ensures taken { AreTaken (R.gives rt.now) early.new.taken.items }
+    requires { AreTaken (R.gives rt.now) early.old }
+    ensures taken { AreTaken (R.gives rt.now) early.new }
     ensures done { OnOk result (IsChanged (R.gives rt.now) change.entry words.now.paths.items stamp filing.old filing.new) }
     ensures refused { IfErr result IsRefusal }
     ensures kept { KeepsTo change.entry filing.old filing.new }
@@ -445,39 +444,6 @@ fn label_volume<'a>(filing: &mut Filing, text: &'a str) -> Result<(), Stop<'a>>
     }
 }
 
-/// The end of a command whose change is made, or is refused.
-fn end_change<'a>(alloc: Global, filing: &Filing, done: Result<(), Failure>) -> Result<(), Stop<'a>>
-    ensures done { OnOk result (IsOk done) }
-    ensures refused { IfErr result IsRefusal }
-{
-    match done {
-        Ok(()) => Ok(()),
-        Err(failure) => Err(stop_unfound(alloc, filing, &failure)),
-    }
-}
-
-/// Returns the end of a command whose change is refused. If its path selects nothing, the line has also the path of a file of that name in another
-/// directory.
-pub fn stop_unfound<'a>(alloc: Global, filing: &Filing, failure: &Failure) -> Stop<'a>
-    ensures refused { IsRefusal result }
-    ensures status { (s : Code) × (HasStatus failure.now.why s × (StopsWith result s ⊎ (result ≡ End.NoMemory))) }
-{
-    match unfound_text(alloc, filing, failure) {
-        Some(text) => stop_about(alloc, failure.path.as_str(), text, failure.status()),
-        None => stop_failed(alloc, failure),
-    }
-}
-
-/// Why a path selects nothing, with the path of a file of its name in another directory; None if there is none or another reason.
-fn unfound_text(alloc: Global, filing: &Filing, failure: &Failure) -> Option<String> {
-    if failure.why != Why::Path(PathFault::Nothing) {
-        return None;
-    }
-    let near = path_elsewhere(alloc, &filing.disk(), failure.path.as_str(), filing.user())?;
-    let (why, near) = (failure.why, Shown(near.as_str()));
-    format!(in alloc; "{why}; {near} has this name").ok()
-}
-
 /// Says of each directory that would lie below another than the master directory that RSX has none such.
 fn say_nested<R: AllocGlobal + Eprint>(rt: &R, words: &Words<'_>) {
     if words.quiet {
@@ -491,13 +457,4 @@ fn say_nested<R: AllocGlobal + Eprint>(rt: &R, words: &Words<'_>) {
             );
         }
     }
-}
-
-/// Returns the end of a command whose change is refused.
-#[tactic(auto, using(crate::proofs::Refusals::is_refusal))]
-pub fn stop_failed<'a>(alloc: Global, failure: &Failure) -> Stop<'a>
-    ensures refused { IsRefusal result }
-    ensures status { (s : Code) × (HasStatus failure.now.why s × (StopsWith result s ⊎ (result ≡ End.NoMemory))) }
-{
-    stop_about(alloc, failure.path.as_str(), failure.why, failure.status())
 }

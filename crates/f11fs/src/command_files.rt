@@ -3,7 +3,7 @@ ghost use Rattle.std.specs.Prelude.{◌≡◌, ◌≤◌, ◌⊎◌, ◌&&◌, �
 ghost use Rattle.std.specs.{List.list_any, Str.Lines.lines, Str.bytes_eq};
 ghost use Rattle.fs_host.specs.Faults.{is_reason};
 ghost use Rattle.fs_reads.specs.declared.stop.Stop.{Stop as End};
-ghost use Rattle.f11fs.specs.{Stores.GainsNoCopy, Stores.ImageStays, Stores.IsMadeAndSaved, Stores.MakesLines, Looks.IsAsOuter, Changed.AreAllDone, Changed.AreLinesEnded, Changed.AsksChange, Changed.IsChange, Changed.IsChanged, Changed.IsDoneBy, Changed.IsDoneNow, Changed.IsLineDone, Changed.is_refused, Readings.AreTaken, Readings.IsUnread, Readings.behind_mark, Readings.reads_commands, Readings.takes_input, Readings.untars_input};
+ghost use Rattle.f11fs.specs.{Stores.GainsNoCopy, Stores.ImageStays, Stores.IsMadeAndSaved, Stores.MakesLines, Looks.IsAsOuter, Changed.AreAllDone, Changed.AreLinesEnded, Changed.AsksChange, Changed.IsChange, Changed.IsChanged, Changed.IsDoneBy, Changed.IsDoneNow, Changed.IsLineDone, Changed.is_refused, Given.AreTaken, Readings.IsUnread, Readings.behind_mark, Readings.reads_commands, Readings.takes_input, Readings.untars_input};
 ghost use Rattle.ods_shell.specs.declared.status.Status.{Status as Code};
 
 use crate::changing::{
@@ -87,7 +87,7 @@ fn save_lines<'a, R: Host, S: Store>(
     early: &mut Early,
     printed: &RefCell<Vec<u8>>,
 ) -> Result<(Status, Option<Finished>), Stop<'a>>
-    requires { AreTaken (R.gives rt.now) early.old.taken.items }
+    requires { AreTaken (R.gives rt.now) early.old }
     ensures told { words.now.saving.only_tells ≡ true → ImageStays (S.has store.old) (S.has store.new) × GainsNoCopy (S.has_copy store.old) (S.has_copy store.new) }
     // What is saved is what all lines make of the blocks that the image had.
     ensures saved { words.now.saving.only_tells ≡ false → IfOk result (λ ended. MatchOption ended.1 (ImageStays (S.has store.old) (S.has store.new) × GainsNoCopy (S.has_copy store.old) (S.has_copy store.new))
@@ -168,8 +168,8 @@ fn read_early<'a, R: Host>(
     text: &str,
     early: &mut Early,
 ) -> Result<(), Stop<'a>>
-    requires { AreTaken (R.gives rt.now) early.old.taken.items }
-    ensures { OnOk result (AreTaken (R.gives rt.now) early.new.taken.items) }
+    requires { AreTaken (R.gives rt.now) early.old }
+    ensures { OnOk result (AreTaken (R.gives rt.now) early.new) }
 {
     for line in text.lines() {
         read_line_early(rt, outer, line, early)?;
@@ -184,8 +184,8 @@ fn read_line_early<'a, R: Host>(
     line: &str,
     early: &mut Early,
 ) -> Result<(), Stop<'a>>
-    requires { AreTaken (R.gives rt.now) early.old.taken.items }
-    ensures { OnOk result (AreTaken (R.gives rt.now) early.new.taken.items) }
+    requires { AreTaken (R.gives rt.now) early.old }
+    ensures { OnOk result (AreTaken (R.gives rt.now) early.new) }
 {
     let words = match line_words(rt.alloc(), line) {
         Ok(words) => words,
@@ -211,7 +211,7 @@ fn obey_text<'a, R: Host>(
     text: &str,
     early: &mut Early,
 ) -> Result<(Status, Option<Filing>), Stop<'a>>
-    requires { AreTaken (R.gives rt.now) early.old.taken.items }
+    requires { AreTaken (R.gives rt.now) early.old }
     ensures { IfOk result (λ done. MatchOption done.1
         (AreLinesEnded (R.gives rt.now) run.now.outer.now.image run.now.asker.stamp run.now.asker.user run.now.keep_going (lines text.now) done.0 (record { image = volume.image; layout = volume.layout; user = run.now.asker.user }))
         (AreAllDone (R.gives rt.now) run.now.outer.now.image run.now.asker.stamp run.now.asker.user run.now.keep_going (lines text.now) done.0 (record { image = volume.image; layout = volume.layout; user = run.now.asker.user }))) }
@@ -235,7 +235,7 @@ fn obey_lines<R: Host>(
     text: &str,
     early: &mut Early,
 ) -> (Status, bool)
-    requires { AreTaken (R.gives rt.now) early.old.taken.items }
+    requires { AreTaken (R.gives rt.now) early.old }
     // Where the run goes on, each line has left the volume as it was, or has made the change whole that its words ask for. The status is that of the
     // first line that is not done.
     ensures done { result.1 ≡ true → AreAllDone (R.gives rt.now) run.now.outer.now.image run.now.asker.stamp run.now.asker.user run.now.keep_going (lines text.now) result.0 filing.old filing.new }
@@ -296,8 +296,8 @@ fn obey_line<R: Host>(
     line: &str,
     early: &mut Early,
 ) -> (Status, bool)
-    requires { AreTaken (R.gives rt.now) early.old.taken.items }
-    ensures taken { AreTaken (R.gives rt.now) early.new.taken.items }
+    requires { AreTaken (R.gives rt.now) early.old }
+    ensures taken { AreTaken (R.gives rt.now) early.new }
     ensures done { result.1 ≡ true → IsLineDone (R.gives rt.now) run.now.outer.now.image run.now.asker.stamp run.now.asker.user line.now result.0 filing.old filing.new }
     ensures ended { result.1 ≡ false → AsksChange run.now.outer.now.image line.now }
     ensures refused { result.1 ≡ false → is_refused result.0 ≡ true }
@@ -362,8 +362,8 @@ fn obey_words<R: Host>(
     own: Words<'_>,
     early: &mut Early,
 ) -> (Status, bool)
-    requires { AreTaken (R.gives rt.now) early.old.taken.items }
-    ensures taken { AreTaken (R.gives rt.now) early.new.taken.items }
+    requires { AreTaken (R.gives rt.now) early.old }
+    ensures taken { AreTaken (R.gives rt.now) early.new }
     // Where the volume stands it is as it was, or the change of the command is made whole.
     ensures done { result.1 ≡ true → IsDoneBy (R.gives rt.now) own.entry.action own.entry.paths.items (unwrap_or own.entry.stamp run.now.asker.stamp) (unwrap_or own.entry.user run.now.asker.user) result.0 filing.old filing.new }
     ensures ended { result.1 ≡ false → IsChange own.entry.action }
@@ -401,8 +401,8 @@ fn obey_action<R: Host>(
     own: &Words<'_>,
     early: &mut Early,
 ) -> (Status, bool)
-    requires { AreTaken (R.gives rt.now) early.old.taken.items }
-    ensures taken { AreTaken (R.gives rt.now) early.new.taken.items }
+    requires { AreTaken (R.gives rt.now) early.old }
+    ensures taken { AreTaken (R.gives rt.now) early.new }
     ensures done { result.1 ≡ true → IsDoneNow (R.gives rt.now) own.now.action own.now.paths.items stamp result.0 filing.old filing.new }
     ensures ended { result.1 ≡ false → IsChange own.now.action }
     ensures refused { result.1 ≡ false → is_refused result.0 ≡ true }
@@ -458,8 +458,8 @@ fn change_or_keep<'a, R: Host>(
     change: Change<'a>,
     early: &mut Early,
 ) -> (Status, bool)
-    requires { AreTaken (R.gives rt.now) early.old.taken.items }
-    ensures taken { AreTaken (R.gives rt.now) early.new.taken.items }
+    requires { AreTaken (R.gives rt.now) early.old }
+    ensures taken { AreTaken (R.gives rt.now) early.new }
     // Where the volume stands, the change is made, or it is refused and nothing is.
     ensures done { result.1 ≡ true → ((result.0 ≡ Code.Done) × IsChanged (R.gives rt.now) change.entry words.now.paths.items stamp filing.old filing.new) ⊎ ((is_refused result.0 ≡ true) × (filing.new ≡ filing.old)) }
     ensures refused { result.1 ≡ false → is_refused result.0 ≡ true }

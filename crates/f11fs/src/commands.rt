@@ -1,17 +1,12 @@
-//! The command that the words request.
-ghost use Rattle.std.specs.Prelude.{◌≡◌, ◌&&◌, not};
+//! The command that the words request is the one that runs.
+ghost use Rattle.std.specs.Prelude.{◌≡◌, ◌⊎◌, ◌&&◌, IfOk, not};
+ghost use Rattle.fs_reads.specs.Ends.{StopsWith};
+ghost use Rattle.fs_reads.specs.declared.stop.Stop.{Stop as End};
 ghost use Rattle.f11fs.specs.Seen.{prints_names};
 
-use crate::changing::change_image;
-use crate::command_files::obey_file;
-use crate::converting::convert_image;
 use crate::host::Host;
-use crate::making::init_image;
-use crate::orders::layers_of;
-use crate::repairing::repair_image;
-use fs_reads::{
-    Progress, Stop, check, info, obey, open_readable, open_volume, rescue, say_end, show_space,
-};
+use crate::running::Commands;
+use fs_reads::{Progress, Stop, say_end};
 use fs_words::{Action, Words};
 use ods_shell::Status;
 
@@ -22,10 +17,18 @@ pub struct Seen {
     pub output: bool,
 }
 
-/// Runs the requested command, and returns its exit status.
-pub fn run_command<R: Host>(rt: &R, words: &Words<'_>, seen: Seen) -> Status {
+/// Runs the requested command, and returns its exit status: the one with which it ended, or the one of the reason for which it stopped.
+#[tactic(auto, using(crate::proofs::Refusals::ended))]
+pub fn run_command<R: Host, C: Commands>(
+    rt: &R,
+    commands: &mut C,
+    words: &Words<'_>,
+    seen: Seen,
+) -> Status
+    ensures { C.ran commands.new words.now words.now.action result ⊎ ((stop : End) × StopsWith stop result) }
+{
     let mut progress = Progress::begin(rt, shows_progress(words, seen));
-    let done = obey_action(rt, words, &mut progress);
+    let done = obey_action(commands, words, &mut progress);
     // Lines about a file are written over the progress. Any other end comes behind it.
     if let Err(Stop::Lines(_, _)) = &done {
         let status = say_end(rt, done);
@@ -36,41 +39,41 @@ pub fn run_command<R: Host>(rt: &R, words: &Words<'_>, seen: Seen) -> Status {
     say_end(rt, done)
 }
 
-/// Does what the words ask for, and returns how it ended.
-fn obey_action<'a, R: Host>(
-    rt: &R,
+/// Runs the command that the words request, and returns how it ended.
+fn obey_action<'a, C: Commands>(
+    commands: &mut C,
     words: &Words<'a>,
     progress: &mut Progress,
-) -> Result<Status, Stop<'a>> {
+) -> Result<Status, Stop<'a>>
+    ensures { IfOk result (C.ran commands.new words.now words.now.action) }
+{
     match words.action {
-        Action::Check { all } => {
-            let layers = layers_of(words.order);
-            check(rt, words.image, words.blocks, layers, all, words.json)
-        }
-        Action::Info => {
-            let layers = layers_of(words.order);
-            let hints = !words.quiet;
-            info(rt, words.image, words.blocks, layers, words.json, hints)
-        }
+        Action::Check { all } => commands.check(words, all),
+        Action::Info => commands.info(words),
         Action::Rescue {
             text,
             scan,
             partial,
-        } => {
-            let layers = layers_of(words.order);
-            rescue(rt, words, layers, text, scan, partial, progress)
-        }
-        Action::Change(change) => change_image(rt, words, change),
-        Action::Repair { kinds, into } => repair_image(rt, words, kinds, into),
+        } => commands.rescue(words, text, scan, partial, progress),
+        Action::Change(change) => commands.change(words, change),
+        Action::Repair { kinds, into } => commands.repair(words, kinds, into),
         Action::Init {
             blocks,
             files,
             label,
             order,
-        } => init_image(rt, words, blocks, files, label, order),
-        Action::Convert { order, alone } => convert_image(rt, words, order, alone),
-        Action::Commands { file, keep_going } => obey_file(rt, words, file, keep_going),
-        _ => read_volume(rt, words, progress),
+        } => commands.init(words, blocks, files, label, order),
+        Action::Convert { order, alone } => commands.convert(words, order, alone),
+        Action::Commands { file, keep_going } => commands.obey_lines(words, file, keep_going),
+        Action::Ls { .. }
+        | Action::Find { .. }
+        | Action::Stat
+        | Action::Cat(_)
+        | Action::Get { .. }
+        | Action::Tar { .. }
+        | Action::Df
+        | Action::Du { .. }
+        | Action::Cmp { .. } => commands.read(words, progress),
     }
 }
 
@@ -88,26 +91,4 @@ fn is_rescue(action: &Action<'_>) -> bool
     ensures { result ≡ prints_names action.now }
 {
     matches!(action, Action::Rescue { .. })
-}
-
-/// Does what the words ask for on a volume, which stays as it is. Where a mount refuses it, that is the status, whatever is shown.
-fn read_volume<'a, R: Host>(
-    rt: &R,
-    words: &Words<'a>,
-    progress: &mut Progress,
-) -> Result<Status, Stop<'a>> {
-    let layers = layers_of(words.order);
-    if let Action::Df = words.action {
-        let volume = open_volume(rt, words.image, words.blocks, layers, !words.quiet)?;
-        return show_space(rt, &volume, words);
-    }
-    let volume = open_readable(rt, words.image, words.blocks, layers, false)?;
-    let done = obey(rt, &volume.disk(), words, progress);
-    match volume.ends(Status::Done) {
-        Status::Done => done,
-        refused => {
-            let _ = say_end(rt, done);
-            Ok(refused)
-        }
-    }
 }

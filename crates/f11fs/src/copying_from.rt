@@ -1,14 +1,15 @@
 //! `cp --from`: copies files of another image, which a mount may refuse, into the volume.
 ghost use Rattle.std.specs.Prelude.{◌≡◌, ℕ, IfErr, IfOk, OnOk, Some, is_some, slice_get};
 ghost use Rattle.fs_reads.specs.Readable.{IsReadableOf};
-ghost use Rattle.f11fs.specs.{Changed.IsRefusal, CopiedOver.CopiesBelow, CopiedOver.CopiesOver, CopiedOver.CopiesTreeOver, CopiedOver.copying_said, CopiedOver.reader_for, Readings.first_image};
+ghost use Rattle.f11fs.specs.{Changed.IsRefusal, CopiedOver.CopiesBelow, CopiedOver.CopiesOver, CopiedOver.CopiesTreeOver, CopiedOver.copying_said, CopiedOver.reader_for, Given.AreTaken, Given.GivesVolume, Given.Volume, Readings.first_image};
 ghost use Rattle.f11fs.specs.declared.early.OtherImage.{OtherImage as AnImage};
 
-use crate::changing::stop_failed;
 use crate::early::Early;
+use crate::host::Host;
 use crate::putting::placing_for;
-use fs_host::{Extent, Layers};
-use fs_reads::{Readable, Stop, VolumeFault, WordFault, open_image, readable_of, stop_about};
+use crate::refusing::stop_failed;
+use fs_host::Extent;
+use fs_reads::{Readable, Stop, VolumeFault, WordFault, readable_of, stop_about};
 use fs_words::{FromWords, Words};
 use ods_base::{Image, Uic};
 use ods_filing::Filing;
@@ -16,12 +17,10 @@ use ods_request::{Refusal, Stamp};
 use ods_shell::Status;
 use ods_upkeep::{CopyFrom, Failure, Why, copy_from, copy_tree_from};
 use std::alloc::Global;
-use std::fs::File;
-use std::rt::Files;
 use thiserror::Error;
 
 /// Copies files of the volume of another image, as the words specify. Rights on the other volume are checked only if the words specify a user.
-pub(crate) fn copy_from_image<'a, R: Files<File = File> + AllocGlobal + Eprint>(
+pub(crate) fn copy_from_image<'a, R: Host>(
     rt: &R,
     filing: &mut Filing,
     stamp: Stamp,
@@ -29,8 +28,9 @@ pub(crate) fn copy_from_image<'a, R: Files<File = File> + AllocGlobal + Eprint>(
     how: FromWords<'a>,
     early: &mut Early,
 ) -> Result<(), Stop<'a>>
-    ensures taken { early.new.taken ≡ early.old.taken }
-    ensures done { OnOk result (CopiesBelow how.entry.below (is_some words.now.user) how.entry.contiguous how.entry.next how.entry.owners words.now.paths.items stamp filing.old filing.new) }
+    requires { AreTaken (R.gives rt.now) early.old }
+    ensures taken { AreTaken (R.gives rt.now) early.new }
+    ensures done { OnOk result (CopiesBelow (R.gives rt.now) how.entry.below (is_some words.now.user) how.entry words.now.paths.items stamp filing.old filing.new) }
     ensures refused { IfErr result IsRefusal }
 {
     if how.below {
@@ -41,7 +41,7 @@ pub(crate) fn copy_from_image<'a, R: Files<File = File> + AllocGlobal + Eprint>(
 
 /// Copies the files that the words but the last find on the volume of another image to the last one. Why a mount refuses that image is said, and where
 /// INDEXF.SYS has a whole chain there its files with whole chains are copied. Refused, some may be copied.
-fn copy_over<'a, R: Files<File = File> + AllocGlobal + Eprint>(
+fn copy_over<'a, R: Host>(
     rt: &R,
     filing: &mut Filing,
     stamp: Stamp,
@@ -49,8 +49,9 @@ fn copy_over<'a, R: Files<File = File> + AllocGlobal + Eprint>(
     how: FromWords<'a>,
     early: &mut Early,
 ) -> Result<(), Stop<'a>>
-    ensures taken { early.new.taken ≡ early.old.taken }
-    ensures done { OnOk result (CopiesOver (is_some words.now.user) how.entry.contiguous how.entry.next how.entry.owners words.now.paths.items stamp filing.old filing.new) }
+    requires { AreTaken (R.gives rt.now) early.old }
+    ensures taken { AreTaken (R.gives rt.now) early.new }
+    ensures done { OnOk result (CopiesOver (R.gives rt.now) (is_some words.now.user) how.entry words.now.paths.items stamp filing.old filing.new) }
     ensures refused { IfErr result IsRefusal }
 {
     let Some((to, paths)) = words.paths.as_slice().split_last() else {
@@ -58,12 +59,7 @@ fn copy_over<'a, R: Files<File = File> + AllocGlobal + Eprint>(
     };
     let opened = open_other(rt, how.from, early)?;
     let user = filing.user();
-    let how = how_to_copy(
-        reader_for(words.user.is_some(), user),
-        how.contiguous,
-        how.next,
-        how.owners,
-    );
+    let how = how_to_copy(reader_for(words.user.is_some(), user), &how);
     let disk = opened.disk();
     match copy_from(rt.alloc(), filing, &disk, stamp, how, paths, *to) {
         Ok(()) => Ok(()),
@@ -73,7 +69,7 @@ fn copy_over<'a, R: Files<File = File> + AllocGlobal + Eprint>(
 
 /// Copies the files in the directory that the first of two words says on the volume of another image, and below it, to the directory of the second
 /// word, and below it. Refused, some may be copied.
-fn copy_tree_over<'a, R: Files<File = File> + AllocGlobal + Eprint>(
+fn copy_tree_over<'a, R: Host>(
     rt: &R,
     filing: &mut Filing,
     stamp: Stamp,
@@ -81,8 +77,9 @@ fn copy_tree_over<'a, R: Files<File = File> + AllocGlobal + Eprint>(
     how: FromWords<'a>,
     early: &mut Early,
 ) -> Result<(), Stop<'a>>
-    ensures taken { early.new.taken ≡ early.old.taken }
-    ensures done { OnOk result (CopiesTreeOver (is_some words.now.user) how.entry.contiguous how.entry.next how.entry.owners words.now.paths.items stamp filing.old filing.new) }
+    requires { AreTaken (R.gives rt.now) early.old }
+    ensures taken { AreTaken (R.gives rt.now) early.new }
+    ensures done { OnOk result (CopiesTreeOver (R.gives rt.now) (is_some words.now.user) how.entry words.now.paths.items stamp filing.old filing.new) }
     ensures refused { IfErr result IsRefusal }
 {
     let Some((to, paths)) = words.paths.as_slice().split_last() else {
@@ -96,12 +93,7 @@ fn copy_tree_over<'a, R: Files<File = File> + AllocGlobal + Eprint>(
     }
     let opened = open_other(rt, how.from, early)?;
     let user = filing.user();
-    let how = how_to_copy(
-        reader_for(words.user.is_some(), user),
-        how.contiguous,
-        how.next,
-        how.owners,
-    );
+    let how = how_to_copy(reader_for(words.user.is_some(), user), &how);
     let disk = opened.disk();
     match copy_tree_from(rt.alloc(), filing, &disk, stamp, how, *path, *to) {
         Ok(()) => Ok(()),
@@ -110,12 +102,10 @@ fn copy_tree_over<'a, R: Files<File = File> + AllocGlobal + Eprint>(
 }
 
 /// The volume of the other image.
-fn open_other<'a, R: Files<File = File> + AllocGlobal + Eprint>(
-    rt: &R,
-    image: &'a str,
-    early: &mut Early,
-) -> Result<Readable, Stop<'a>>
-    ensures taken { early.new.taken ≡ early.old.taken }
+fn open_other<'a, R: Host>(rt: &R, image: &'a str, early: &mut Early) -> Result<Readable, Stop<'a>>
+    requires { AreTaken (R.gives rt.now) early.old }
+    ensures taken { AreTaken (R.gives rt.now) early.new }
+    ensures given { IfOk result (λ volume. GivesVolume (R.gives rt.now) image.entry.now volume.image volume.layout) }
     // What was read early is copied from.
     ensures early { (place : ℕ) (one : AnImage) → first_image image.entry.now early.old.images.items ≡ Some place → slice_get early.old.images.items place ≡ Some one → IfOk result (λ volume. IsReadableOf one.opened volume) }
     ensures err { IfErr result IsRefusal }
@@ -125,17 +115,19 @@ fn open_other<'a, R: Files<File = File> + AllocGlobal + Eprint>(
 }
 
 /// The other image, if it was read early; otherwise it is read now.
-fn taken_or_opened<R: Files<File = File> + AllocGlobal>(
+fn taken_or_opened<R: Host>(
     rt: &R,
     path: &str,
     early: &mut Early,
 ) -> Result<(Image, Option<Extent>), VolumeFault>
-    ensures taken { early.new.taken ≡ early.old.taken }
+    requires { AreTaken (R.gives rt.now) early.old }
+    ensures taken { AreTaken (R.gives rt.now) early.new }
+    ensures given { IfOk result (λ opened. R.gives rt.now path.now (Volume opened.0)) }
     ensures early { (place : ℕ) (one : AnImage) → first_image path.now early.old.images.items ≡ Some place → slice_get early.old.images.items place ≡ Some one → result ≡ one.opened }
 {
     match early.take_image(path) {
         Some(opened) => opened,
-        None => open_image(rt, path, None, Layers::Found),
+        None => rt.volume_of(path),
     }
 }
 
@@ -147,18 +139,18 @@ fn reader_for(is_said: bool, user: Uic) -> Option<Uic>
 }
 
 /// How files are copied, by what the words say.
-fn how_to_copy(reader: Option<Uic>, contiguous: Option<bool>, next: bool, owners: bool) -> CopyFrom
-    ensures { result ≡ copying_said reader contiguous next owners }
+fn how_to_copy(reader: Option<Uic>, how: &FromWords<'_>) -> CopyFrom
+    ensures { result ≡ copying_said reader how.now }
 {
-    let placing = match contiguous {
+    let placing = match how.contiguous {
         Some(contiguous) => Some(placing_for(contiguous)),
         None => None,
     };
     CopyFrom {
         reader,
         placing,
-        next,
-        owners,
+        next: how.next,
+        owners: how.owners,
     }
 }
 

@@ -2,19 +2,18 @@
 //! locked, so that nobody waits under the lock.
 ghost use Rattle.std.specs.Prelude.{◌≡◌, ◌<◌, ◌≤◌, ◌-◌, ◌∷◌, ◌++◌, ◌⊎◌, ℕ, [], MatchOption, None, Some, IfNone, IfOk, IfSome, MatchResult, OnOk, drop, length, min, slice_get, string_bytes, vec_len};
 ghost use Rattle.std.specs.List.{remove};
-ghost use Rattle.f11fs.specs.{Changed.host_count, Changed.hosts_among, Readings.AddsImage, Readings.AddsReading, Readings.AreTaken, Readings.MayAddImage, Readings.MayAddReading, Readings.MayAddReadings, Readings.ReadsNothing, Readings.first_at, Readings.first_image};
+ghost use Rattle.f11fs.specs.{Changed.host_count, Changed.hosts_among, Given.AreTaken, Readings.AddsImage, Readings.AddsReading, Readings.MayAddImage, Readings.MayAddReading, Readings.MayAddReadings, Readings.ReadsNothing, Readings.first_at, Readings.first_image};
 ghost use Rattle.f11fs.specs.declared.early.OtherImage.{OtherImage as AnImage};
 ghost use Rattle.f11fs.specs.declared.early.Taken.{Taken as Read};
 
 use crate::host::Host;
 use crate::untarring::archive_among;
-use fs_host::{Extent, HostFault, Layers};
-use fs_reads::{Stop, VolumeFault, open_image};
+use fs_host::{Extent, HostFault};
+use fs_reads::{Stop, VolumeFault};
 use fs_words::{Action, Change, Words};
 use ods_base::{Image, MAX_BYTES};
 use std::alloc::AllocError;
 use std::fs;
-use std::fs::File;
 use std::rt::Files;
 
 /// What was read of a host file.
@@ -60,15 +59,15 @@ impl Early {
 
     /// Reads the sources of a `put`, an `append` or an `untar` that are not plain files, and the other image of a `cp`. The reason of a failure is kept
     /// for that command.
-    #[tactic(auto, using(crate::proofs::Taking::taken_on, crate::proofs::Taking::taken_one))]
+    #[tactic(auto, using(crate::proofs::Taking::image_one, crate::proofs::Taking::taken_on, crate::proofs::Taking::taken_one))]
     pub(crate) fn read_words<'a, R: Host>(
         &mut self,
         rt: &R,
         words: &Words<'_>,
     ) -> Result<(), Stop<'a>>
-        requires { AreTaken (R.gives rt.now) self.old.taken.items }
+        requires { AreTaken (R.gives rt.now) self.old }
         ensures nothing { ReadsNothing words.now.action → self.new ≡ self.old }
-        ensures taken { OnOk result (AreTaken (R.gives rt.now) self.new.taken.items) }
+        ensures taken { OnOk result (AreTaken (R.gives rt.now) self.new) }
     {
         match words.action {
             Action::Change(Change::Put(_)) => self.read_all(rt, hosts(words.paths.as_slice())),
@@ -119,12 +118,8 @@ impl Early {
     }
 
     /// Reads the other image of a `cp`, if it is not a plain file.
-    fn read_image<'a, R: Files<File = File> + AllocGlobal>(
-        &mut self,
-        rt: &R,
-        path: &str,
-    ) -> Result<(), Stop<'a>>
-        ensures { OnOk result (MayAddImage path.now self.old self.new) }
+    fn read_image<'a, R: Host>(&mut self, rt: &R, path: &str) -> Result<(), Stop<'a>>
+        ensures { OnOk result (MayAddImage (R.gives rt.now) path.now self.old self.new) }
     {
         if is_stream(rt, path) {
             return self.add_image(rt, path);
@@ -133,14 +128,10 @@ impl Early {
     }
 
     /// Reads another image.
-    fn add_image<'a, R: Files<File = File> + AllocGlobal>(
-        &mut self,
-        rt: &R,
-        path: &str,
-    ) -> Result<(), Stop<'a>>
-        ensures { OnOk result (AddsImage path.now self.old self.new) }
+    fn add_image<'a, R: Host>(&mut self, rt: &R, path: &str) -> Result<(), Stop<'a>>
+        ensures { OnOk result (AddsImage (R.gives rt.now) path.now self.old self.new) }
     {
-        let opened = open_image(rt, path, None, Layers::Found);
+        let opened = rt.volume_of(path);
         let path = String::from_str(rt.alloc(), path)?;
         Ok(push_image(&mut self.images, OtherImage { path, opened })?)
     }
@@ -150,7 +141,8 @@ impl Early {
         &mut self,
         path: &str,
     ) -> Option<Result<(Image, Option<Extent>), VolumeFault>>
-        ensures taken { self.new.taken ≡ self.old.taken }
+        ensures left { IfNone result (self.new ≡ self.old) }
+        ensures out { IfSome result (λ opened. (place : ℕ) × (one : AnImage) × (slice_get self.old.images.items place ≡ Some one) × (opened ≡ one.opened) × (string_bytes one.path ≡ path.now) × (self.new.images.items ≡ remove self.old.images.items place) × (self.new.taken ≡ self.old.taken)) }
         ensures none { first_image path.now self.old.images.items ≡ None → (result ≡ None) × (self.new ≡ self.old) }
         ensures some { (place : ℕ) (one : AnImage) → first_image path.now self.old.images.items ≡ Some place → slice_get self.old.images.items place ≡ Some one → (result ≡ Some one.opened) × (self.new.images.items ≡ remove self.old.images.items place) }
     {
@@ -163,7 +155,7 @@ impl Early {
     /// Removes and returns the first unused contents of a host file that were read early.
     pub(crate) fn take(&mut self, path: &str) -> Option<Result<Vec<u8>, HostFault>>
         ensures left { IfNone result (self.new ≡ self.old) }
-        ensures out { IfSome result (λ bytes. (place : ℕ) × (one : Read) × (slice_get self.old.taken.items place ≡ Some one) × (bytes ≡ one.bytes) × (string_bytes one.path ≡ path.now) × (self.new.taken.items ≡ remove self.old.taken.items place)) }
+        ensures out { IfSome result (λ bytes. (place : ℕ) × (one : Read) × (slice_get self.old.taken.items place ≡ Some one) × (bytes ≡ one.bytes) × (string_bytes one.path ≡ path.now) × (self.new.taken.items ≡ remove self.old.taken.items place) × (self.new.images ≡ self.old.images)) }
         ensures none { first_at path.now self.old.taken.items ≡ None → (result ≡ None) × (self.new ≡ self.old) }
         ensures some { (place : ℕ) (one : Read) → first_at path.now self.old.taken.items ≡ Some place → slice_get self.old.taken.items place ≡ Some one → (result ≡ Some one.bytes) × (self.new.taken.items ≡ remove self.old.taken.items place) }
     {

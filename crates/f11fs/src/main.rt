@@ -26,8 +26,10 @@ mod mending_sound;
 mod orders;
 mod putting;
 mod putting_tree;
+mod refusing;
 mod repair_lines;
 mod repairing;
+mod running;
 mod store;
 mod telling;
 mod truncating;
@@ -40,6 +42,7 @@ use fs_words::parse_words;
 use host::Host;
 use lines::{say_bad_words, say_no_memory, say_wrong};
 use ods_shell::Status;
+use running::HostCommands;
 use std::io::IsTerminal;
 use std::process::ExitCode;
 use std::{env, io};
@@ -73,7 +76,7 @@ fn run<R: Host>(rt: &R, seen: Seen) -> Status {
         return say_no_memory(rt);
     };
     match parse_words(rt.alloc(), words.as_slice(), VERSION) {
-        Ok(found) => run_command(rt, &found, seen),
+        Ok(found) => run_command(rt, &mut HostCommands { rt }, &found, seen),
         Err(fault) => say_bad_words(rt, fault),
     }
 }

@@ -1,13 +1,13 @@
 //! `put`: files of the host, put into a volume.
 ghost use Rattle.std.specs.Prelude.{◌≡◌, ◌≤◌, ◌⊎◌, ℕ, List, Ok, Some, IfErr, IfOk, OnOk, is_some, not, slice_get, vec_len};
-ghost use Rattle.f11fs.specs.{Changed.ArePut, Changed.ArePutNext, Changed.IsRefusal, Changed.path_among, Dated.IsHostTime, Forms.form_said, Forms.placing_for as placing_by, Forms.placing_said, Readings.AreTaken, Readings.IsLastPart, Readings.IsTooLarge, Readings.IsUnread, Readings.first_at};
+ghost use Rattle.f11fs.specs.{Changed.ArePut, Changed.ArePutNext, Changed.IsRefusal, Changed.path_among, Dated.IsHostTime, Forms.form_said, Forms.placing_for as placing_by, Forms.placing_said, Given.AreTaken, Given.Bytes, Readings.IsLastPart, Readings.IsTooLarge, Readings.IsUnread, Readings.first_at};
 ghost use Rattle.f11fs.specs.declared.early.Taken.{Taken as Read};
 ghost use Rattle.ods_upkeep.specs.HostPut.{IsHostPut};
 
-use crate::changing::stop_failed;
 use crate::dating::{host_time, takes_times};
 use crate::early::{Early, hosts};
 use crate::host::Host;
+use crate::refusing::stop_failed;
 use fs_host::{HostFault, HostZone, Shown};
 use fs_reads::{Stop, WordFault};
 use fs_words::{PutWords, Words};
@@ -27,8 +27,8 @@ pub(crate) fn put<'a, R: Host>(
     how: PutWords<'a>,
     early: &mut Early,
 ) -> Result<(), Stop<'a>>
-    requires { AreTaken (R.gives rt.now) early.old.taken.items }
-    ensures taken { AreTaken (R.gives rt.now) early.new.taken.items }
+    requires { AreTaken (R.gives rt.now) early.old }
+    ensures taken { AreTaken (R.gives rt.now) early.new }
     ensures done { OnOk result (ArePut (R.gives rt.now) (is_some words.now.stamp) how.entry words.now.paths.items stamp filing.old filing.new) }
     ensures refused { IfErr result IsRefusal }
 {
@@ -82,8 +82,8 @@ fn put_each<'a, R: Host>(
     early: &mut Early,
     quiet: bool,
 ) -> Result<(), Stop<'a>>
-    requires { AreTaken (R.gives rt.now) early.old.taken.items }
-    ensures taken { AreTaken (R.gives rt.now) early.new.taken.items }
+    requires { AreTaken (R.gives rt.now) early.old }
+    ensures taken { AreTaken (R.gives rt.now) early.new }
     ensures done { OnOk result (ArePutNext (R.gives rt.now) (is_some zone.now) stamp putting.old hosts.now filing.old putting.new filing.new) }
     ensures refused { IfErr result IsRefusal }
 {
@@ -104,9 +104,9 @@ fn bytes_to_put<'a, R: Host>(
     room: u64,
     early: &mut Early,
 ) -> Result<Vec<u8>, Stop<'a>>
-    requires { AreTaken (R.gives rt.now) early.old.taken.items }
-    ensures given { IfOk result (λ bytes. R.gives rt.now path.entry.now bytes.items) }
-    ensures taken { AreTaken (R.gives rt.now) early.new.taken.items }
+    requires { AreTaken (R.gives rt.now) early.old }
+    ensures given { IfOk result (λ bytes. R.gives rt.now path.entry.now (Bytes bytes.items)) }
+    ensures taken { AreTaken (R.gives rt.now) early.new }
     ensures refused { IfErr result IsRefusal }
 {
     match host_bytes(rt, path, room, early) {
@@ -228,9 +228,9 @@ pub(crate) fn host_bytes<'a, R: Host>(
     room: u64,
     early: &mut Early,
 ) -> Result<Vec<u8>, Stop<'a>>
-    requires { AreTaken (R.gives rt.now) early.old.taken.items }
-    ensures given { IfOk result (λ bytes. R.gives rt.now path.entry.now bytes.items) }
-    ensures taken { AreTaken (R.gives rt.now) early.new.taken.items }
+    requires { AreTaken (R.gives rt.now) early.old }
+    ensures given { IfOk result (λ bytes. R.gives rt.now path.entry.now (Bytes bytes.items)) }
+    ensures taken { AreTaken (R.gives rt.now) early.new }
     ensures few { IfOk result (λ bytes. vec_len bytes ≤ room) }
     // What was read early is put.
     ensures early { (place : ℕ) (one : Read) → first_at path.now early.old.taken.items ≡ Some place → slice_get early.old.taken.items place ≡ Some one → IfOk result (λ bytes. one.bytes ≡ Ok bytes) }
@@ -252,9 +252,9 @@ pub(crate) fn taken_or_read<R: Host>(
     room: u64,
     early: &mut Early,
 ) -> Result<Vec<u8>, HostFault>
-    requires { AreTaken (R.gives rt.now) early.old.taken.items }
-    ensures given { IfOk result (λ bytes. R.gives rt.now path.now bytes.items) }
-    ensures taken { AreTaken (R.gives rt.now) early.new.taken.items }
+    requires { AreTaken (R.gives rt.now) early.old }
+    ensures given { IfOk result (λ bytes. R.gives rt.now path.now (Bytes bytes.items)) }
+    ensures taken { AreTaken (R.gives rt.now) early.new }
     ensures early { (place : ℕ) (one : Read) → first_at path.now early.old.taken.items ≡ Some place → slice_get early.old.taken.items place ≡ Some one → result ≡ one.bytes }
 {
     match early.take(path) {

@@ -1,17 +1,17 @@
 //! `put -r`: the contents of a folder of the host and below it, put into a directory of a volume.
 ghost use Rattle.std.specs.Prelude.{◌≡◌, ◌≤◌, ◌⊎◌, ℕ, is_some, IfErr, IfOk, OnOk, vec_len};
 ghost use Rattle.ods_upkeep.specs.TreePut.{IsFolderPut};
-ghost use Rattle.f11fs.specs.{Changed.IsRefusal, Changed.PutsBelow, Readings.AreTaken, TreePut.AreEntriesPut, TreePut.AreTreeWords, TreePut.IsEntryPut, TreePut.IsFilePut, TreePut.IsTreePut, TreePut.tree_form as form_for_tree};
+ghost use Rattle.f11fs.specs.{Changed.IsRefusal, Changed.PutsBelow, Given.AreTaken, Given.Bytes, TreePut.AreEntriesPut, TreePut.AreTreeWords, TreePut.IsEntryPut, TreePut.IsFilePut, TreePut.IsTreePut, TreePut.tree_form as form_for_tree};
 ghost use Rattle.f11fs.specs.TreeFaults.{IsTooLarge};
 ghost use Rattle.fs_reads.specs.declared.stop.WordFault.TheVariants.{Large as IsLarge, LargeStream as IsLargeStream};
 
-use crate::changing::stop_failed;
 use crate::dating::{host_time, takes_times};
 use crate::early::Early;
 use crate::host::Host;
 use crate::judging_tree::{host_path, judge_tree};
 use crate::putting::{form_of, placing_of, put};
-use fs_host::{HostFault, HostZone, Shown, TreeEntry, TreeKind, list_tree};
+use crate::refusing::stop_failed;
+use fs_host::{HostFault, HostZone, Shown, TreeEntry, TreeKind};
 use fs_reads::{Stop, WordFault, stop_about};
 use fs_words::{PutWords, Words};
 use ods_base::FileId;
@@ -23,7 +23,7 @@ use ods_upkeep::{
 };
 use std::alloc::Global;
 use std::fs;
-use std::fs::{File, Metadata};
+use std::fs::Metadata;
 use std::rt::Files;
 
 /// Runs `put`: host files one by one, or with `-r` everything in a folder.
@@ -35,36 +35,35 @@ pub(crate) fn put_files<'a, R: Host>(
     how: PutWords<'a>,
     early: &mut Early,
 ) -> Result<(), Stop<'a>>
-    requires { AreTaken (R.gives rt.now) early.old.taken.items }
-    ensures taken { AreTaken (R.gives rt.now) early.new.taken.items }
+    requires { AreTaken (R.gives rt.now) early.old }
+    ensures taken { AreTaken (R.gives rt.now) early.new }
     ensures done { OnOk result (PutsBelow (R.gives rt.now) how.entry.below (is_some words.now.stamp) how.entry words.now.paths.items stamp filing.old filing.new) }
     ensures refused { IfErr result IsRefusal }
 {
     if how.below {
-        return put_tree(rt, filing, stamp, words, how, how.skip);
+        return put_tree(rt, filing, stamp, words, how);
     }
     put(rt, filing, stamp, words, how, early)
 }
 
-/// `put -r`: all that is in the folder of the first word goes into the directory of the second one, or into the master directory. With `skip` what has no name is
-/// left out.
+/// `put -r`: all that is in the folder of the first word goes into the directory of the second one, or into the master directory. With `--skip`,
+/// entries without a valid name are left out.
 fn put_tree<'a, R: Host>(
     rt: &R,
     filing: &mut Filing,
     stamp: Stamp,
     words: &Words<'a>,
     how: PutWords<'a>,
-    skip: bool,
 ) -> Result<(), Stop<'a>>
     ensures done { OnOk result (IsTreePut (R.gives rt.now) (is_some words.now.stamp) how.entry words.now.paths.items stamp filing.old filing.new) }
     ensures refused { IfErr result IsRefusal }
 {
     let (folder, to) = tree_words(rt.alloc(), words.paths.as_slice())?;
-    let listed = match list_tree(rt, folder) {
+    let listed = match rt.tree_of(folder) {
         Ok(listed) => listed,
         Err(fault) => return Err(Stop::Word(folder, WordFault::Unread(fault))),
     };
-    let kept = judge_tree(rt, folder, listed, skip, words.quiet)?;
+    let kept = judge_tree(rt, folder, listed, how.skip, words.quiet)?;
     let entries = kept.as_slice();
     make_ready(filing, entries.len(), Placing::Anywhere);
     let dir = match tree_root(rt.alloc(), filing, stamp, to) {
@@ -242,7 +241,7 @@ fn stop_in_tree<'a>(alloc: Global, folder: &str, failure: &Failure) -> Stop<'a>
 
 /// The bytes of a file of a tree, at most as many as there is room for on the volume.
 fn tree_bytes<'a, R: Host>(rt: &R, path: &str, room: u64) -> Result<Vec<u8>, Stop<'a>>
-    ensures given { IfOk result (λ bytes. R.gives rt.now path.now bytes.items) }
+    ensures given { IfOk result (λ bytes. R.gives rt.now path.now (Bytes bytes.items)) }
     ensures few { IfOk result (λ bytes. vec_len bytes ≤ room) }
     ensures err { IfErr result IsRefusal }
 {

@@ -4,7 +4,7 @@ ghost use Rattle.ods_filing.specs.Led.{IsLed};
 ghost use Rattle.ods_upkeep.specs.Kinds.{Cuts};
 ghost use Rattle.f11fs.specs.Changed.{CutsFirst, IsRefusal};
 
-use crate::changing::stop_unfound;
+use crate::refusing::stop_unfound;
 use fs_host::Shown;
 use fs_reads::Stop;
 use fs_words::Words;

@@ -4,13 +4,13 @@ ghost use Rattle.ods_filing.specs.Filed.{Filed};
 ghost use Rattle.ods_request.specs.Stamps.{is_stamp};
 ghost use Rattle.ods_upkeep.specs.Given.{GetTheirs};
 ghost use Rattle.ods_upkeep.specs.declared.giving.Access.{Access as Given};
-ghost use Rattle.f11fs.specs.{Changed.IsRefusal, Readings.AreTaken, Unpacked.ArePutFrom, Unpacked.AreUntarred, Unpacked.IsDirectoryPut, Unpacked.IsDue, Unpacked.IsFilePut, Unpacked.IsMemberTime, Unpacked.IsPut, Unpacked.archive_among, Unpacked.directory_among, Unpacked.has_access as gives_access, Unpacked.is_directory as is_directory_kind, Unpacked.placing_told};
+ghost use Rattle.f11fs.specs.{Changed.IsRefusal, Given.AreTaken, Unpacked.ArePutFrom, Unpacked.AreUntarred, Unpacked.IsDirectoryPut, Unpacked.IsDue, Unpacked.IsFilePut, Unpacked.IsMemberTime, Unpacked.IsPut, Unpacked.archive_among, Unpacked.directory_among, Unpacked.has_access as gives_access, Unpacked.is_directory as is_directory_kind, Unpacked.placing_told};
 
-use crate::changing::stop_failed;
 use crate::dating::time_at;
 use crate::early::{Early, archive_room};
 use crate::host::Host;
 use crate::putting::taken_or_read;
+use crate::refusing::stop_failed;
 use fs_host::HostZone;
 use fs_reads::{Stop, WordFault, stop_about};
 use fs_words::Words;
@@ -37,8 +37,8 @@ pub(crate) fn untar<'a, R: Host>(
     words: &Words<'a>,
     early: &mut Early,
 ) -> Result<(), Stop<'a>>
-    requires { AreTaken (R.gives rt.now) early.old.taken.items }
-    ensures taken { AreTaken (R.gives rt.now) early.new.taken.items }
+    requires { AreTaken (R.gives rt.now) early.old }
+    ensures taken { AreTaken (R.gives rt.now) early.new }
     ensures done { OnOk result (AreUntarred (R.gives rt.now) (is_some words.now.stamp) words.now.paths.items stamp filing.old filing.new) }
     ensures refused { IfErr result IsRefusal }
 {

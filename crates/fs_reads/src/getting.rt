@@ -5,7 +5,7 @@ ghost use Rattle.std.specs.Fs.{IsDir, file_type};
 ghost use Rattle.std.specs.List.{All, ends_with, list_any};
 ghost use Rattle.std.specs.Option.{option_to_list};
 ghost use Rattle.fs_reads.specs.Dates.{IsDateAt, IsDatedBy};
-ghost use Rattle.fs_reads.specs.Ends.{may_name};
+ghost use Rattle.fs_reads.specs.Ends.{EndsPrinting, may_name};
 ghost use Rattle.fs_reads.specs.Gets.{AreGot, AreSaid, EndsGet, GoesTo, IsAmong, IsGettable, path_within, says_all_versions as says_all};
 ghost use Rattle.fs_reads.specs.Targets.{IsWritten, StayTaken};
 ghost use Rattle.fs_reads.specs.Written.{status_written};
@@ -436,6 +436,7 @@ fn print<'a, R: AllocGlobal + Print, T: Targets>(
     ensures status { IfOk result (λ s. s ≡ Code.Done) }
     ensures took { IfOk result (λ s. how.entry.only_tells ≡ false → (bytes : List ℕ) → ContentsAre contents.now bytes → T.took targets.new (codes "-") bytes) }
     ensures stay { StayTaken (T.took targets.old) (T.took targets.new) }
+    ensures err { IfErr result EndsPrinting }
 {
     if how.only_tells {
         return tell(rt, path, "-", how.json);
@@ -453,7 +454,8 @@ fn tell<'a, R: AllocGlobal + Print>(
     host: &str,
     json: bool,
 ) -> Result<Status, Stop<'a>>
-    ensures { IfOk result (λ s. s ≡ Code.Done) }
+    ensures ok { IfOk result (λ s. s ≡ Code.Done) }
+    ensures err { IfErr result EndsPrinting }
 {
     let line = if json {
         pair_object(rt.alloc(), "get", path, "to", host)?

@@ -9,6 +9,7 @@ ghost use Rattle.ods_space.specs.Disks.{on};
 ghost use Rattle.fs_reads.specs.Deleted.{EndsWords};
 ghost use Rattle.fs_reads.specs.Ends.{may_name};
 ghost use Rattle.fs_reads.specs.Gets.{AreSaid};
+ghost use Rattle.fs_reads.specs.Targets.{AreTaken, IsWritten, StayTaken};
 ghost use Rattle.fs_reads.specs.Undeleted.{AreIdsGot, EndsBy, IsFormerGot, IsIdGot, SaysId, SpellsId};
 
 use crate::getting::{
@@ -18,7 +19,7 @@ use crate::printing::{Reader, say_remark, say_unread};
 use crate::progress::Progress;
 use crate::reading::{Unread, check_right};
 use crate::stop::{Stop, say_about, stop_about};
-use crate::targets::HostTargets;
+use crate::targets::Targets;
 use fs_host::{HostZone, Shown};
 use fs_words::Words;
 use ods_base::FileId;
@@ -38,8 +39,13 @@ use std::time::Clock;
 /// `get --deleted`: extracts the deleted files with these IDs. Without `said`, the last of two or more words is the destination. With `partial`, also
 /// extracts the rest of files that are not whole. With a zone, each host file receives the creation date of its file. No file is written if a path is
 /// not an ID.
-pub(crate) fn get_deleted<'a, R: Files<File = File> + Clock + AllocGlobal + Print + Eprint>(
+pub(crate) fn get_deleted<
+    'a,
+    R: Files<File = File> + Clock + AllocGlobal + Print + Eprint,
+    T: Targets,
+>(
     rt: &R,
+    targets: &mut T,
     disk: &Disk<'_>,
     words: &Words<'a>,
     said: Option<&'a str>,
@@ -50,7 +56,7 @@ pub(crate) fn get_deleted<'a, R: Files<File = File> + Clock + AllocGlobal + Prin
 ) -> Result<Status, Stop<'a>>
     ensures status { IfOk result (λ s. may_name s ≡ true) }
     ensures done { IfOk result (λ s. s ≡ Code.Done → (paths : List (Bor (List ℕ))) × ((target : Option (Bor (List ℕ))) × AreSaid words.now.paths.items said.entry paths target
-        × on AreIdsGot disk.now words.now.user (λ id. on IsUndeleted disk.now id wanted partial) paths)) }
+        × on AreIdsGot disk.now words.now.user (IsWritten words.now.saving.only_tells (T.took targets.new) (λ id. on IsUndeleted disk.now id wanted partial)) paths)) }
 {
     let (paths, target) = split_words(&words.paths, said);
     check_ids(rt.alloc(), paths)?;
@@ -67,7 +73,9 @@ pub(crate) fn get_deleted<'a, R: Files<File = File> + Clock + AllocGlobal + Prin
         reader: Reader::of(words),
         zone,
     };
-    get_all(rt, disk, &shares, paths, to, how, partial, progress)
+    get_all(
+        rt, targets, disk, &shares, paths, to, how, partial, progress,
+    )
 }
 
 /// Ends the command where one of these paths is no ID.
@@ -111,8 +119,9 @@ fn unmarked_id(alloc: Global, word: &str) -> Result<Option<FileId>, AllocError>
 }
 
 /// Gets the deleted file of each of these IDs.
-fn get_all<'a, R: Files<File = File> + Clock + AllocGlobal + Print + Eprint>(
+fn get_all<'a, R: Files<File = File> + Clock + AllocGlobal + Print + Eprint, T: Targets>(
     rt: &R,
+    targets: &mut T,
     disk: &Disk<'_>,
     shares: &Shares<'_>,
     paths: &[&'a str],
@@ -124,13 +133,24 @@ fn get_all<'a, R: Files<File = File> + Clock + AllocGlobal + Print + Eprint>(
     requires image { shares.now.image ≡ disk.now.image.now }
     requires layout { shares.now.layout ≡ disk.now.layout.now }
     ensures status { IfOk result (λ s. may_name s ≡ true) }
-    ensures done { IfOk result (λ s. s ≡ Code.Done → on AreIdsGot disk.now how.entry.reader.user (λ id. on IsUndeleted disk.now id how.entry.wanted partial) paths.now) }
+    ensures done { IfOk result (λ s. s ≡ Code.Done → on AreIdsGot disk.now how.entry.reader.user (IsWritten how.entry.only_tells (T.took targets.new) (λ id. on IsUndeleted disk.now id how.entry.wanted partial)) paths.now) }
+    ensures stay { StayTaken (T.took targets.old) (T.took targets.new) }
 {
     let mut written = BTreeSet::new(rt.alloc());
     let mut status = Status::Done;
     let mut before = 0u64;
     for path in paths {
-        let done = get_id(rt, disk, shares, *path, to, how, partial, &mut written)?;
+        let done = get_id(
+            rt,
+            targets,
+            disk,
+            shares,
+            *path,
+            to,
+            how,
+            partial,
+            &mut written,
+        )?;
         status = status.or(done);
         if to != Destination::Output {
             progress.show(rt, before, paths.len() as u64);
@@ -141,8 +161,9 @@ fn get_all<'a, R: Files<File = File> + Clock + AllocGlobal + Print + Eprint>(
 }
 
 /// Gets the deleted file with the ID that a path is. An ID of no deleted file, and a file that is refused, are said, and no fault of the command.
-fn get_id<'a, R: Files<File = File> + AllocGlobal + Print + Eprint>(
+fn get_id<'a, R: Files<File = File> + AllocGlobal + Print + Eprint, T: Targets>(
     rt: &R,
+    targets: &mut T,
     disk: &Disk<'_>,
     shares: &Shares<'_>,
     path: &'a str,
@@ -153,11 +174,12 @@ fn get_id<'a, R: Files<File = File> + AllocGlobal + Print + Eprint>(
 ) -> Result<Status, Stop<'a>>
     requires image { shares.now.image ≡ disk.now.image.now }
     requires layout { shares.now.layout ≡ disk.now.layout.now }
-    ensures { IfOk result (EndsBy (on IsIdGot disk.now how.entry.reader.user (λ id. on IsUndeleted disk.now id how.entry.wanted partial) path.entry.now)) }
+    ensures ends { IfOk result (EndsBy (on IsIdGot disk.now how.entry.reader.user (IsWritten how.entry.only_tells (T.took targets.new) (λ id. on IsUndeleted disk.now id how.entry.wanted partial)) path.entry.now)) }
+    ensures stay { StayTaken (T.took targets.old) (T.took targets.new) }
 {
     let id = id_in(rt.alloc(), path)?;
     match find_former(rt.alloc(), disk, shares, id)? {
-        Some(former) => get_former(rt, disk, &former, to, how, partial, written),
+        Some(former) => get_former(rt, targets, disk, &former, to, how, partial, written),
         None => {
             say_about(
                 rt,
@@ -170,8 +192,9 @@ fn get_id<'a, R: Files<File = File> + AllocGlobal + Print + Eprint>(
 }
 
 /// Gets a deleted file that this user might read.
-fn get_former<'a, R: Files<File = File> + AllocGlobal + Print + Eprint>(
+fn get_former<'a, R: Files<File = File> + AllocGlobal + Print + Eprint, T: Targets>(
     rt: &R,
+    targets: &mut T,
     disk: &Disk<'_>,
     former: &Former,
     to: Destination<'_>,
@@ -180,7 +203,8 @@ fn get_former<'a, R: Files<File = File> + AllocGlobal + Print + Eprint>(
     written: &mut BTreeSet<String>,
 ) -> Result<Status, Stop<'a>>
     requires { on IsFormer disk.now former.now }
-    ensures { IfOk result (EndsBy (IsFormerGot how.entry.reader.user (λ id. on IsUndeleted disk.now id how.entry.wanted partial) former.now)) }
+    ensures ends { IfOk result (EndsBy (IsFormerGot how.entry.reader.user (IsWritten how.entry.only_tells (T.took targets.new) (λ id. on IsUndeleted disk.now id how.entry.wanted partial)) former.now)) }
+    ensures stay { StayTaken (T.took targets.old) (T.took targets.new) }
 {
     let path = former.found.path.as_str();
     let Some(facts) = &former.found.facts else {
@@ -190,7 +214,7 @@ fn get_former<'a, R: Files<File = File> + AllocGlobal + Print + Eprint>(
         return say_unread(rt, path, fault);
     }
     match open_former(rt.alloc(), disk, former, how.wanted, partial) {
-        Ok(got) => put_got(rt, former, &got, to, how, written),
+        Ok(got) => put_got(rt, targets, former, &got, to, how, written),
         Err(fault) => say_ungot(rt, path, fault),
     }
 }
@@ -209,33 +233,46 @@ fn say_ungot<'a, R: Eprint>(rt: &R, path: &str, fault: FormerFault) -> Result<St
 }
 
 /// Writes what is got out of a deleted file to its destination.
-fn put_got<'a, R: Files<File = File> + AllocGlobal + Print + Eprint>(
+fn put_got<'a, R: Files<File = File> + AllocGlobal + Print + Eprint, T: Targets>(
     rt: &R,
+    targets: &mut T,
     former: &Former,
     got: &Got<'_>,
     to: Destination<'_>,
     how: How<'_>,
     written: &mut BTreeSet<String>,
 ) -> Result<Status, Stop<'a>>
-    ensures { IfOk result (λ s. (s ≡ Code.Done) ⊎ (s ≡ Code.Host)) }
+    ensures status { IfOk result (λ s. (s ≡ Code.Done) ⊎ (s ≡ Code.Host)) }
+    ensures took { IfOk result (λ s. s ≡ Code.Done → AreTaken how.entry.only_tells (T.took targets.new) got.now.contents) }
+    ensures stay { StayTaken (T.took targets.old) (T.took targets.new) }
 {
     let path = former.found.path.as_str();
     say_remark(rt, path, &got.remark, how.reader.quiet);
     let changed = second_for(how.zone, former.found.facts());
-    let mut targets = HostTargets { rt };
     match to {
-        Destination::Output => keep(rt, &mut targets, path, &got.contents, "-", None, how),
-        Destination::File(host) => keep(rt, &mut targets, path, &got.contents, host, changed, how),
+        Destination::Output => keep(rt, targets, path, &got.contents, "-", None, how),
+        Destination::File(host) => keep(rt, targets, path, &got.contents, host, changed, how),
         Destination::Folder(folder) => {
             let name = former.found.host_name(rt.alloc(), false)?;
-            put_into(rt, path, &got.contents, folder, name, changed, how, written)
+            put_into(
+                rt,
+                targets,
+                path,
+                &got.contents,
+                folder,
+                name,
+                changed,
+                how,
+                written,
+            )
         }
     }
 }
 
 /// Writes what is got into a folder, under a name that is none of those that were written.
-fn put_into<'a, R: Files<File = File> + AllocGlobal + Print + Eprint>(
+fn put_into<'a, R: Files<File = File> + AllocGlobal + Print + Eprint, T: Targets>(
     rt: &R,
+    targets: &mut T,
     from: &str,
     contents: &Contents<'_>,
     folder: &str,
@@ -244,7 +281,9 @@ fn put_into<'a, R: Files<File = File> + AllocGlobal + Print + Eprint>(
     how: How<'_>,
     written: &mut BTreeSet<String>,
 ) -> Result<Status, Stop<'a>>
-    ensures { IfOk result (λ s. (s ≡ Code.Done) ⊎ (s ≡ Code.Host)) }
+    ensures status { IfOk result (λ s. (s ≡ Code.Done) ⊎ (s ≡ Code.Host)) }
+    ensures took { IfOk result (λ s. s ≡ Code.Done → AreTaken how.entry.only_tells (T.took targets.new) contents.now) }
+    ensures stay { StayTaken (T.took targets.old) (T.took targets.new) }
 {
     let path = path_within(rt.alloc(), folder, name.as_str())?;
     if written.contains(&name) && (how.force || how.only_tells) {
@@ -254,16 +293,7 @@ fn put_into<'a, R: Files<File = File> + AllocGlobal + Print + Eprint>(
         );
         return Ok(Status::Host);
     }
-    let mut targets = HostTargets { rt };
-    let done = keep(
-        rt,
-        &mut targets,
-        from,
-        contents,
-        path.as_str(),
-        changed,
-        how,
-    )?;
+    let done = keep(rt, targets, from, contents, path.as_str(), changed, how)?;
     if done == Status::Done && written.insert(name).is_err() {
         return Err(Stop::NoMemory);
     }

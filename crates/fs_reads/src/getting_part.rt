@@ -12,8 +12,8 @@ use ods_space::Disk;
 use std::fs::File;
 use std::rt::Files;
 
-/// Writes what is left of a file whose chain is not whole to this path of the host, if that is requested and the user may read the file, and says so: its
-/// bytes up to the end of file, or with `-t` its text if the records are whole.
+/// Writes what is left of a file whose chain is not whole to this path of the host, and says so. These are its bytes up to the end of file. With `-t`
+/// they are its text, if the records are whole. Does nothing without `partial`, or if the user may not read the file.
 pub(crate) fn keep_part<'a, R: Files<File = File> + AllocGlobal + Print + Eprint, T: Targets>(
     rt: &R,
     targets: &mut T,

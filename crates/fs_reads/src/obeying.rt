@@ -64,14 +64,26 @@ fn run<'a, R: Files<File = File> + Clock + Env + AllocGlobal + Print + Eprint + 
             wanted,
             target,
             below,
-            deleted: false,
+            deleted,
             partial,
             dated,
         } => {
             let zone = HostZone::read_where(rt, dated);
             let zone = zone.as_ref();
             let mut targets = HostTargets { rt };
-            if below {
+            if deleted {
+                get_deleted(
+                    rt,
+                    &mut targets,
+                    disk,
+                    words,
+                    target,
+                    wanted,
+                    partial,
+                    zone,
+                    progress,
+                )
+            } else if below {
                 get_tree(
                     rt,
                     &mut targets,
@@ -95,18 +107,6 @@ fn run<'a, R: Files<File = File> + Clock + Env + AllocGlobal + Print + Eprint + 
                     progress,
                 )
             }
-        }
-        Action::Get {
-            wanted,
-            target,
-            below: _,
-            deleted: true,
-            partial,
-            dated,
-        } => {
-            let zone = HostZone::read_where(rt, dated);
-            let zone = zone.as_ref();
-            get_deleted(rt, disk, words, target, wanted, partial, zone, progress)
         }
         Action::Cmp { all } => compare_all(rt, disk, words, all, progress),
         Action::Tar { text } => tar(rt, disk, words, text),

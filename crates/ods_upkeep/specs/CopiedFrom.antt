@@ -9,7 +9,6 @@ use Rattle.ods_base.specs.Name.{RadName}
 use Rattle.ods_base.specs.declared.file_id.Uic.{Uic}
 use Rattle.ods_files.specs.Body.{Body, HasBody, bytes_in}
 use Rattle.ods_files.specs.declared.form.Form.TheVariants.{Raw}
-use Rattle.ods_space.specs.Files.{FindsFiles}
 use Rattle.ods_space.specs.Layout.{VolumeLayout}
 use Rattle.ods_request.specs.Stamps.{is_stamp}
 use Rattle.ods_amend.specs.Access.{may_give}
@@ -105,7 +104,3 @@ IsCopiedFrom I L how stamp paths to old new =
 -- INDEXF.SYS may have grown, and requests of the kind of a cp made all the rest, with protections set in between, and owners if they are kept
 abbrev pub IsLedFrom : Bool → Filed → Filed → Type 0
 IsLedFrom owners old new = (count : ℕ) × ((ready : Filed) × MayHaveGrown count old ready × IsLedGiving owners Copies ready new)
-
--- The same of the files of some volume: only the host, which has its image, knows which one.
-abbrev pub IsCopiedFromSome : CopyFrom → List ℕ → List (Bor (List ℕ)) → List ℕ → Filed → Filed → Type 0
-IsCopiedFromSome how stamp paths to old new = (I : List (List ℕ)) × ((L : VolumeLayout) × FindsFiles I L × IsCopiedFrom I L how stamp paths to old new)

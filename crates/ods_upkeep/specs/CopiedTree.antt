@@ -7,7 +7,7 @@ use Rattle.ods_base.specs.declared.file_id.FileId.{FileId}
 use Rattle.ods_base.specs.declared.file_id.Uic.{Uic}
 use Rattle.ods_base.specs.declared.listed.Listed.{Listed}
 use Rattle.ods_base.specs.declared.name.Pick.TheVariants.{Highest}
-use Rattle.ods_space.specs.Files.{FindsFiles, IsFile}
+use Rattle.ods_space.specs.Files.{IsFile}
 use Rattle.ods_space.specs.Layout.{VolumeLayout}
 use Rattle.ods_paths.specs.Paths.{File, Said, Says, Within}
 use Rattle.ods_request.specs.declared.answers.Answer.TheVariants.{Created}
@@ -149,7 +149,3 @@ abbrev pub IsTreeCopied : List (List ℕ) → VolumeLayout → CopyFrom → List
 IsTreeCopied I L how stamp path to old new =
     (tree : List Directory) × ((target : Target) × IsTree I L path tree × IsTarget old.image old.layout 2 to target
     × ((due : List Access) × ((filled : Filed) × AreDirectoriesCopied I L how stamp path target.directory (depth_of tree) tree due old filled × GetTheirs due filled new)))
-
--- The same of some volume: only the host, which has its image, knows which one.
-abbrev pub IsTreeCopiedFromSome : CopyFrom → List ℕ → List ℕ → List ℕ → Filed → Filed → Type 0
-IsTreeCopiedFromSome how stamp path to old new = (I : List (List ℕ)) × ((L : VolumeLayout) × FindsFiles I L × IsTreeCopied I L how stamp path to old new)

@@ -8,13 +8,14 @@ use Rattle.ods_shell.specs.declared.form.Remark.{Remark}
 use Rattle.ods_shell.specs.declared.status.Status.{Status}
 use Rattle.ods_shell.specs.declared.status.Status.TheVariants.{Done}
 use Rattle.fs_reads.specs.Gets.{AreSaid}
+use Rattle.fs_reads.specs.Targets.{IsWritten}
 use Rattle.fs_reads.specs.Undeleted.{AreIdsGot}
 use Rattle.fs_reads.proofs.getting_deleted.get_deleted.Goals as goal
 
 pub returns-clause-done : goal.returns-clause-done
 returns-clause-done g c =
     let D = c.args.disk.now in
-    let Gives : FileId → List ℕ → Option Remark → Type 0 = λ id. on IsUndeleted D id c.args.wanted c.args.partial in
+    let Gives : FileId → List ℕ → Option Remark → Type 0 = IsWritten c.args.words.now.saving.only_tells (g.T.Targets.took c.get_all.new.targets) (λ id. on IsUndeleted D id c.args.wanted c.args.partial) in
     let paths = c.split_words.result.0.now in
     let target = c.split_words.result.1 in
     let said : AreSaid c.args.words.now.paths.items c.args.said paths target = subst (λ ws. AreSaid ws c.args.said paths target) c.deref.ensures.value c.split_words.ensures in

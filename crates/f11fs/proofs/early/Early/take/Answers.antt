@@ -10,4 +10,4 @@ returns-in-Some-clause-some c = λ place one first at.
 pub returns-in-Some-clause-out : goal.returns-in-Some-clause-out
 returns-in-Some-clause-out c =
     let there = read_there c.args.self.now.taken.items c.args.path.now c.in-Some.place c.remove.result c.place_at.result (search rules) c.in-Some.is c.remove.ensures.value in
-    (c.in-Some.place, c.remove.result, there.0, search rules, there.1, c.remove.ensures.items)
+    (c.in-Some.place, c.remove.result, there.0, search rules, there.1, c.remove.ensures.items, search rules)
